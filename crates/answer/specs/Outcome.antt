@@ -1,0 +1,69 @@
+-- What an answer means in document 01 ("Numbers from the input", "Numbers from the state"): the values of a success, or the number of a refusal.
+use mathlib.Core.Bool.{Bool}
+use mathlib.Core.List.{List, [], _∷_, _++_}
+use Prim.Native.Nat.{ℕ}
+use lib.Dec.{ltb}
+use lib.ListN.{length, drop}
+use Rattle.laws.specs.First.{firstTrue}
+use Rattle.answer.specs.declared.Refusal.{Refusal}
+use Rattle.answer.specs.declared.Refusal.the-variants as refusal
+use Rattle.answer.specs.declared.Written.{Written}
+use Rattle.answer.specs.declared.Written.the-variants as written-as
+use Rattle.answer.specs.declared.Done.{Done}
+use Rattle.answer.specs.declared.Done.the-variants as done-as
+
+-- a success and its values, or a refusal and its number
+pub data Outcome : Type 0 where
+  success : List ℕ → Outcome
+  refused : ℕ → Outcome
+
+-- THE ANSWER OF A CALL, from its tests in document 01's order, each with its number, and the values of its success:
+-- the first test that is true refuses
+abbrev pub outcome : List (ℕ × Bool) → List ℕ → Outcome
+outcome tests values = firstTrue refused (success values) tests
+
+-- what a call leaves in the slice that it fills: the bytes and then the rest as it was; on a refusal everything as it was
+abbrev pub left : Outcome → List ℕ → List ℕ → List ℕ
+left (success values) bytes old = bytes ++ drop (length bytes) old
+left (refused n) bytes old = old
+
+-- ---- the enums of the code
+-- document 01's number of each refusal
+abbrev pub numberOf : Refusal → ℕ
+numberOf refusal.FileLength = 1
+numberOf refusal.Counts = 2
+numberOf refusal.Ends = 3
+numberOf refusal.Sections = 4
+numberOf refusal.NodeClass = 5
+numberOf refusal.ClassSize = 6
+numberOf refusal.EndClass = 7
+numberOf refusal.Arc = 8
+numberOf refusal.RoundsLength = 9
+numberOf refusal.RoundNumber = 10
+numberOf refusal.Order = 11
+numberOf refusal.NotRecord = 12
+numberOf refusal.SizesDiffer = 13
+numberOf refusal.Probability = 14
+numberOf refusal.OutputShort = 15
+numberOf refusal.TallyShort = 21
+numberOf refusal.TallyUnsound = 22
+numberOf refusal.TallySizes = 23
+numberOf refusal.TallyFull = 24
+numberOf refusal.NoRounds = 25
+
+-- "search, row, side and writer the length written"
+abbrev pub written : Written → Outcome
+written (written-as.Bytes n) = success (n ∷ [])
+written (written-as.Refused r) = refused (numberOf r)
+
+-- "fresh, add and weights 0"
+abbrev pub done : Done → Outcome
+done done-as.Done = success (0 ∷ [])
+done (done-as.Refused r) = refused (numberOf r)
+
+-- ---- deliver: bytes into a slice, or 15
+abbrev pub deliverAnswer : List ℕ → ℕ → Outcome
+deliverAnswer bytes room = outcome ((15, ltb room (length bytes)) ∷ []) (length bytes ∷ [])
+
+abbrev pub deliverLeft : List ℕ → List ℕ → List ℕ
+deliverLeft bytes out = left (deliverAnswer bytes (length out)) bytes out

@@ -1,0 +1,82 @@
+// What the calls answer: a refusal with its number, or the values of a success.
+ghost use mathlib.Core.Path.{_≡_};
+ghost use lib.ListN.{length};
+ghost use Rattle.answer.specs.Outcome.{numberOf, written, deliverAnswer, deliverLeft};
+
+// Why a call refuses: a case for each number of document 01's two lists.
+pub enum Refusal {
+    // Numbers from the input, 1 to 15.
+    FileLength,
+    Counts,
+    Ends,
+    Sections,
+    NodeClass,
+    ClassSize,
+    EndClass,
+    Arc,
+    RoundsLength,
+    RoundNumber,
+    Order,
+    NotRecord,
+    SizesDiffer,
+    Probability,
+    OutputShort,
+    // Numbers from the state, 21 to 25.
+    TallyShort,
+    TallyUnsound,
+    TallySizes,
+    TallyFull,
+    NoRounds,
+}
+
+// The answer of search, series, parallel and the writer: the length written.
+pub enum Written {
+    Bytes(usize),
+    Refused(Refusal),
+}
+
+// The answer of new, add, weights and the check of a round: 0.
+pub enum Done {
+    Done,
+    Refused(Refusal),
+}
+
+// Document 01's number of a refusal.
+pub fn number(refusal: Refusal) -> u32
+    ensures { λ r. ⌜ r ≡ numberOf refusal ⌝ }
+{
+    match refusal {
+        Refusal::FileLength => 1,
+        Refusal::Counts => 2,
+        Refusal::Ends => 3,
+        Refusal::Sections => 4,
+        Refusal::NodeClass => 5,
+        Refusal::ClassSize => 6,
+        Refusal::EndClass => 7,
+        Refusal::Arc => 8,
+        Refusal::RoundsLength => 9,
+        Refusal::RoundNumber => 10,
+        Refusal::Order => 11,
+        Refusal::NotRecord => 12,
+        Refusal::SizesDiffer => 13,
+        Refusal::Probability => 14,
+        Refusal::OutputShort => 15,
+        Refusal::TallyShort => 21,
+        Refusal::TallyUnsound => 22,
+        Refusal::TallySizes => 23,
+        Refusal::TallyFull => 24,
+        Refusal::NoRounds => 25,
+    }
+}
+
+// Copies `bytes` into `out`, or refuses where `out` is shorter: the last step of every call that
+// fills a slice of bytes.
+pub fn deliver(bytes: &[u8], out: &mut [u8]) -> Written
+    ensures answer { λ r. ⌜ written r ≡ deliverAnswer (now (bytes .entry)) (length (now (out .entry))) ⌝ }
+    ensures left { λ _. ⌜ now (out .exit) ≡ deliverLeft (now (bytes .entry)) (now (out .entry)) ⌝ }
+{
+    if out.len() < bytes.len() {
+        return Written::Refused(Refusal::OutputShort);
+    }
+    Written::Bytes(bytes::copy(bytes, out))
+}

@@ -1,0 +1,131 @@
+use native.Mathlib.Nat.{le-of-lt}
+use mathlib.Core.Path.{_≡_, sym, _∙_}
+use mathlib.Core.Logic.{inl, inr}
+use borrow.Author.Tests.{leb-true, leb-false}
+use Prim.Native.Nat.{min}
+use Rattle.record.specs.Record.{size1, size2, listed}
+use Rattle.record.proofs.Bytes.{pair-at, listed-length}
+use Rattle.record.proofs.Records.{record-is}
+use Rattle.compose.proofs.Merges.{both, at, Merging, merging-none, series-puttable, series-left, series-right, series-done}
+use Prim.Native.Nat.{ℕ, suc, _+_, _-_, _*_, _/_, _≤_, _<_}
+use native.Mathlib.Omega.{arith}
+use borrow.Author.Needs.{needs}
+use lib.ListN.{length, getD, set, length-set}
+use Rattle.compose.proofs.merge_series.Statement.{statement}
+use Rattle.compose.proofs.merge_series.Tie as tie
+use Rattle.compose.proofs.merge_series.Reads as reads
+use Rattle.compose.proofs.merge_series.Lts as lts
+use Rattle.front.proofs.Pair.min.Reads as min-reads
+use Rattle.front.proofs.Pos2.at_least.Reads as at-least-reads
+use Rattle.record.proofs.count.Reads as count-reads
+use Rattle.record.proofs.empty.Reads as empty-reads
+use Rattle.record.proofs.pair_at.Reads as pair-at-reads
+use Rattle.record.proofs.put.Reads as put-reads
+use Rattle.record.proofs.size1.Reads as size1-reads
+use Rattle.record.proofs.size2.Reads as size2-reads
+
+abbrev Inv-loop : tie.InvT-loop
+Inv-loop left right joined₀ k m i₀ j₀ joined i j =
+    Merging both min (size1 left) (size2 left) (listed left) (listed right) i j joined × (k ≡ length (listed left)) × (m ≡ length (listed right))
+
+abbrev μ-loop : tie.MeasureT-loop
+μ-loop left right joined₀ k m i₀ j₀ joined i j = (k - i) + (m - j)
+
+-- the two pairs of a turn
+left-is : (c : tie.After-pair-at Inv-loop μ-loop) → c .pair-at .result ≡ at (listed (c .before .before .before .before .before .before .before .before .before .before .before .args .left .now)) (c .before .before .before .loop .i)
+left-is c = let s = c .before .before .before .before .before .before .before .before .before .before .before in c .pair-at .ensures ∙ pair-at (s .args .left .now) (c .before .before .before .loop .i) (record-is (s .args .left .now) .0 (s .pre .left-is) .long)
+
+right-is : (c : tie.After-pair-at2 Inv-loop μ-loop) → c .pair-at2 .result ≡ at (listed (c .before .before .before .before .before .before .before .before .before .before .before .before .args .right .now)) (c .before .before .before .before .loop .j)
+right-is c = let s = c .before .before .before .before .before .before .before .before .before .before .before .before in c .pair-at2 .ensures ∙ pair-at (s .args .right .now) (c .before .before .before .before .loop .j) (record-is (s .args .right .now) .0 (s .pre .right-is) .long)
+
+size1-requires : tie.Need-size1-requires Inv-loop μ-loop
+size1-requires c κs = search needs
+
+size2-requires : tie.Need-size2-requires Inv-loop μ-loop
+size2-requires c κs = search needs
+
+empty-requires : tie.Need-empty-requires Inv-loop μ-loop
+empty-requires c κs = search needs
+
+count-requires : tie.Need-count-requires Inv-loop μ-loop
+count-requires c κs = search needs
+
+count-requires-2 : tie.Need-count-requires-2 Inv-loop μ-loop
+count-requires-2 c κs = search needs
+
+loop-holds : tie.Need-loop-holds Inv-loop μ-loop
+loop-holds c =
+    let s = c .before .before .before .before .before .before .before in (
+      merging-none (s .pre) (c .before .before .before .before .size1 .ensures) (c .before .before .before .size2 .ensures) (c .before .before .empty .ensures),
+      c .before .count .ensures ∙ sym (listed-length (s .args .left .now) (record-is (s .args .left .now) .0 (s .pre .left-is) .long)),
+      c .count2 .ensures ∙ sym (listed-length (s .args .right .now) (record-is (s .args .right .now) .0 (s .pre .right-is) .long)),
+    )
+
+returns : tie.Need-returns Inv-loop μ-loop
+returns c = series-done (c .before .before .loop .inv .0) (inr (omega arith))
+
+pair-at-requires : tie.Need-pair-at-requires Inv-loop μ-loop
+pair-at-requires c κs = search needs
+
+pair-at-requires-2 : tie.Need-pair-at-requires-2 Inv-loop μ-loop
+pair-at-requires-2 c κs = search needs
+
+min-requires : tie.Need-min-requires Inv-loop μ-loop
+min-requires c κs = search needs
+
+put-requires : tie.Need-put-requires Inv-loop μ-loop
+put-requires c κs = series-puttable (c .before .before .before .before .before .before .loop .inv .0) (omega arith) (omega arith) (left-is (c .before .before .before)) (right-is (c .before .before)) (c .min .ensures)
+
+at-least-requires : tie.Need-at-least-requires Inv-loop μ-loop
+at-least-requires c κs = search needs
+
+add-i : tie.Need-add-i Inv-loop μ-loop
+add-i c = search needs
+
+loop-less : tie.Need-loop-less Inv-loop μ-loop
+loop-less c = search needs
+
+loop-again : tie.Need-loop-again Inv-loop μ-loop
+loop-again c =
+    let l = c .before .before .before .before .before .before .before .before .before .loop in
+    (series-left (l .inv .0) (omega arith) (omega arith) (left-is (c .before .before .before .before .before .before)) (right-is (c .before .before .before .before .before)) (c .before .before .before .min .ensures) (c .before .before .put .ensures) (leb-true _ _ (sym (c .before .at-least .ensures) ∙ c .if2 .taken)), l .inv .1, l .inv .2)
+
+add-j : tie.Need-add-j Inv-loop μ-loop
+add-j c = search needs
+
+loop-less-2 : tie.Need-loop-less-2 Inv-loop μ-loop
+loop-less-2 c = search needs
+
+loop-again-2 : tie.Need-loop-again-2 Inv-loop μ-loop
+loop-again-2 c =
+    let l = c .before .before .before .before .before .before .before .before .before .loop in
+    (series-right (l .inv .0) (omega arith) (omega arith) (left-is (c .before .before .before .before .before .before)) (right-is (c .before .before .before .before .before)) (c .before .before .before .min .ensures) (c .before .before .put .ensures) (le-of-lt (leb-false _ _ (sym (c .before .at-least .ensures) ∙ c .if2 .left))), l .inv .1, l .inv .2)
+
+returns-2 : tie.Need-returns-2 Inv-loop μ-loop
+returns-2 c = series-done (c .before .loop .inv .0) (inl (omega arith))
+
+pub merge-series-spec : {M : Type 1} → statement M
+merge-series-spec =
+    tie.close
+    (tie.spec
+    Inv-loop
+    μ-loop
+    size1-requires
+    size2-requires
+    empty-requires
+    count-requires
+    count-requires-2
+    loop-holds
+    returns
+    pair-at-requires
+    pair-at-requires-2
+    min-requires
+    put-requires
+    at-least-requires
+    add-i
+    loop-less
+    loop-again
+    add-j
+    loop-less-2
+    loop-again-2
+    returns-2)

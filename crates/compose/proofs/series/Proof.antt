@@ -1,0 +1,62 @@
+use mathlib.Core.Path.{_≡_, sym, ap, _∙_}
+use mathlib.Core.List.{[], _∷_}
+use lib.ListN.{length}
+use Rattle.answer.specs.Outcome.{success, outcome, done, deliverAnswer, deliverLeft}
+use Rattle.compose.specs.Compose.{recordTests, seriesBytes}
+use Rattle.compose.proofs.Answers.{joined-refused, joined-joinable, joined-delivered}
+use borrow.Author.Needs.{needs}
+use Rattle.compose.proofs.series.Statement.{statement}
+use Rattle.compose.proofs.series.Tie as tie
+use Rattle.compose.proofs.series.Reads as reads
+use Rattle.compose.proofs.series.Lts as lts
+use Rattle.compose.proofs.joinable.Reads as joinable-reads
+use Rattle.compose.proofs.merge_series.Reads as merge-series-reads
+use Rattle.record.proofs.deliver.Reads as deliver-reads
+
+passed : (c : tie.After-enum-told) → let s = c .before .before .before .before .before .before in outcome (recordTests (s .args .left .now) (s .args .right .now)) (0 ∷ []) ≡ success (0 ∷ [])
+passed c = sym (c .before .before .joinable .ensures) ∙ ap done (c .enum-told .given .1)
+
+joinable-requires : tie.Need-joinable-requires
+joinable-requires c κs = search needs
+
+enum-known-r : tie.Need-enum-known-r
+enum-known-r c = search needs
+
+returns : tie.Need-returns
+returns c = let s = c .before .before .before .before .before .before .before in joined-refused (s .args .left .now) (s .args .right .now) _ (sym (c .before .before .before .joinable .ensures) ∙ ap done (c .before .r .given .1)) (seriesBytes (s .args .left .now) (s .args .right .now)) (s .args .out .now)
+
+enum-told : tie.Need-enum-told
+enum-told c = search needs
+
+merge-series-requires : tie.Need-merge-series-requires
+merge-series-requires c κs = let s = c .before .before .before .before .before .before in joined-joinable (s .args .left .now) (s .args .right .now) (passed c)
+
+deliver-requires : tie.Need-deliver-requires
+deliver-requires c κs = search needs
+
+same-length : tie.Need-same-length
+same-length c = search needs
+
+returns-2 : tie.Need-returns-2
+returns-2 c =
+    let s = c .before .before .before .before .before .before .before .before .before .before .before in
+    let x = s .args .left .now in
+    let y = s .args .right .now in
+    let out = s .args .out .now in
+    let is = c .before .before .before .before .merge-series .ensures in
+    let d = c .before .before .deliver .ensures in
+    let j = joined-delivered x y (passed (c .before .before .before .before .before)) (seriesBytes x y) out in
+    (d .0 ∙ ap (λ b. deliverAnswer b (length out)) is ∙ j .0, d .1 ∙ ap (λ b. deliverLeft b out) is ∙ j .1)
+
+pub series-spec : {M : Type 1} → statement M
+series-spec =
+    tie.close
+    (tie.spec
+    joinable-requires
+    enum-known-r
+    returns
+    enum-told
+    merge-series-requires
+    deliver-requires
+    same-length
+    returns-2)

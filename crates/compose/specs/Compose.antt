@@ -1,0 +1,52 @@
+-- Series and parallel of two records (document 01, "Row and side"): what the two calls write, answer and leave.
+use mathlib.Core.Path.{_≡_}
+use mathlib.Core.Bool.{Bool, not, _&&_}
+use mathlib.Core.List.{List, [], _∷_, _++_}
+use Prim.Native.Nat.{ℕ}
+use lib.Dec.{T, eqb, ltb}
+use lib.ListN.{length}
+use Rattle.answer.specs.Outcome.{Outcome, outcome, left}
+use Rattle.front.specs.Front.{series, parallel}
+use Rattle.record.specs.Record.{size1, size2, listed, recordBytes, isRecord}
+
+-- the record of the series (01: row) of two records, and of their parallel (01: side)
+abbrev pub seriesBytes : List ℕ → List ℕ → List ℕ
+seriesBytes x y = recordBytes (size1 x) (size2 x) (series (size1 x) (size2 x) (listed x) (listed y))
+
+abbrev pub parallelBytes : List ℕ → List ℕ → List ℕ
+parallelBytes x y = recordBytes (size1 x) (size2 x) (parallel (size1 x) (size2 x) (listed x) (listed y))
+
+abbrev pub sameSizes : List ℕ → List ℕ → Bool
+sameSizes x y = eqb (size1 x) (size1 y) && eqb (size2 x) (size2 y)
+
+-- "row and side (12, 13, 15)": the tests of a call that would write `bytes` into a slice with that room
+abbrev pub recordTests : List ℕ → List ℕ → List (ℕ × Bool)
+recordTests x y = (12, not (isRecord x && isRecord y)) ∷ (13, not (sameSizes x y)) ∷ []
+
+abbrev pub joinTests : List ℕ → List ℕ → List ℕ → ℕ → List (ℕ × Bool)
+joinTests x y bytes room = recordTests x y ++ ((15, ltb room (length bytes)) ∷ [])
+
+-- THE ANSWER of series and of parallel, and the output slice afterwards
+abbrev pub joinAnswer : List ℕ → List ℕ → List ℕ → ℕ → Outcome
+joinAnswer x y bytes room = outcome (joinTests x y bytes room) (length bytes ∷ [])
+
+abbrev pub joinLeft : List ℕ → List ℕ → List ℕ → List ℕ → List ℕ
+joinLeft x y bytes out = left (joinAnswer x y bytes (length out)) bytes out
+
+abbrev pub seriesAnswer : List ℕ → List ℕ → ℕ → Outcome
+seriesAnswer x y room = joinAnswer x y (seriesBytes x y) room
+
+abbrev pub seriesLeft : List ℕ → List ℕ → List ℕ → List ℕ
+seriesLeft x y out = joinLeft x y (seriesBytes x y) out
+
+abbrev pub parallelAnswer : List ℕ → List ℕ → ℕ → Outcome
+parallelAnswer x y room = joinAnswer x y (parallelBytes x y) room
+
+abbrev pub parallelLeft : List ℕ → List ℕ → List ℕ → List ℕ
+parallelLeft x y out = joinLeft x y (parallelBytes x y) out
+
+-- two records that may be joined: neither 12 nor 13
+pub record Joinable (x y : List ℕ) : Type 0 where
+  pub left-is : T (isRecord x)
+  pub right-is : T (isRecord y)
+  pub same : T (sameSizes x y)

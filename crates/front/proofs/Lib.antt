@@ -1,0 +1,4 @@
+pub mod Pairs
+pub mod Grid
+pub mod Fronts
+pub mod Joins

@@ -1,0 +1,96 @@
+// Positions of the two classes, and the pair of a path.
+//
+// The two kinds of position are types of their own, so that a minimum or a comparison never
+// crosses classes.
+ghost use mathlib.Core.Path.{_≡_};
+ghost use Prim.Native.Nat.{min};
+ghost use lib.Dec.{leb};
+ghost use Rattle.front.specs.Pair.{pairOf, minPair, covers, same, dominates, holdsAt};
+
+// A position of class 1, counted from 1; n1 + 1 stands for no node of the class.
+pub struct Pos1(pub u8);
+
+// A position of class 2, counted from 1; n2 + 1 stands for no node of the class.
+pub struct Pos2(pub u8);
+
+// The least position of each class on a path.
+pub struct Pair {
+    pub p1: Pos1,
+    pub p2: Pos2,
+}
+
+impl Pos1 {
+    pub fn min(self, other: Pos1) -> Pos1
+        ensures { λ r. ⌜ r .0 ≡ min (self .0) (other .0) ⌝ }
+    {
+        if self.0 < other.0 { self } else { other }
+    }
+
+    pub fn at_least(self, other: Pos1) -> bool
+        ensures { λ r. ⌜ r ≡ leb (other .0) (self .0) ⌝ }
+    {
+        other.0 <= self.0
+    }
+}
+
+impl Pos2 {
+    pub fn min(self, other: Pos2) -> Pos2
+        ensures { λ r. ⌜ r .0 ≡ min (self .0) (other .0) ⌝ }
+    {
+        if self.0 < other.0 { self } else { other }
+    }
+
+    pub fn at_least(self, other: Pos2) -> bool
+        ensures { λ r. ⌜ r ≡ leb (other .0) (self .0) ⌝ }
+    {
+        other.0 <= self.0
+    }
+}
+
+impl Pair {
+    pub fn new(p1: u8, p2: u8) -> Self
+        ensures { λ r. ⌜ r ≡ pairOf p1 p2 ⌝ }
+    {
+        Pair {
+            p1: Pos1(p1),
+            p2: Pos2(p2),
+        }
+    }
+
+    // The smaller position of each class.
+    pub fn min(self, other: Pair) -> Pair
+        ensures { λ r. ⌜ r ≡ minPair self other ⌝ }
+    {
+        Pair {
+            p1: self.p1.min(other.p1),
+            p2: self.p2.min(other.p2),
+        }
+    }
+
+    // At least as large in both positions.
+    pub fn covers(self, other: Pair) -> bool
+        ensures { λ r. ⌜ r ≡ covers self other ⌝ }
+    {
+        self.p1.at_least(other.p1) & self.p2.at_least(other.p2)
+    }
+
+    pub fn same(self, other: Pair) -> bool
+        ensures { λ r. ⌜ r ≡ same self other ⌝ }
+    {
+        (self.p1.0 == other.p1.0) & (self.p2.0 == other.p2.0)
+    }
+
+    // Covers the other, and differs from it.
+    pub fn dominates(self, other: Pair) -> bool
+        ensures { λ r. ⌜ r ≡ dominates self other ⌝ }
+    {
+        self.covers(other) & !self.same(other)
+    }
+
+    // Whether the pair holds after a failures of class 1 and b of class 2.
+    pub fn holds(self, a: u8, b: u8) -> bool
+        ensures { λ r. ⌜ r ≡ holdsAt self a b ⌝ }
+    {
+        (a < self.p1.0) & (b < self.p2.0)
+    }
+}

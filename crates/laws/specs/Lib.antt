@@ -1,0 +1,5 @@
+pub mod Tests
+pub mod Members
+pub mod Pairwise
+pub mod First
+pub mod Parts

@@ -1,0 +1,21 @@
+-- Parts of lists: two elements stored or read side by side.
+use mathlib.Core.Path.{_≡_, refl, sym, ap, _∙_}
+use mathlib.Core.List.{List, [], _∷_, _++_}
+use Prim.Native.Nat.{ℕ, suc, _+_, _<_}
+use native.Mathlib.Omega.{arith}
+use lib.ListN.{length, getD, set, drop, length-append}
+use lib.Seq.{set-at, drop-cons, append-snoc}
+
+module _ {A : Type 0} where
+  -- stores at n and n + 1, where n elements stand in front
+  pub set-two : (p : List A) (x y : A) (z : List A) (a b : A) (n : ℕ) → length p ≡ n → set (set (p ++ x ∷ y ∷ z) n a) (n + 1) b ≡ p ++ a ∷ b ∷ z
+  set-two p x y z a b n e =
+      ap (λ l. set l (n + 1) b) (set-at p x (y ∷ z) a n e ∙ sym (append-snoc p a (y ∷ z)))
+      ∙ set-at (p ++ (a ∷ [])) y z b (n + 1) (length-append p (a ∷ []) ∙ ap (λ k. k + 1) e) ∙ append-snoc p a (b ∷ z)
+
+  -- the two elements at n and n + 1, and what follows them
+  pub drop-two : (l : List A) (n : ℕ) (d : A) → n + 1 < length l → drop n l ≡ getD l n d ∷ getD l (n + 1) d ∷ drop (n + 2) l
+  drop-two l n d h =
+      let e : n + 1 ≡ suc n = omega arith in
+      let f : n + 2 ≡ suc (n + 1) = omega arith in
+      drop-cons l n d (omega arith) ∙ ap (λ r. getD l n d ∷ r) (ap (λ k. drop k l) (sym e) ∙ drop-cons l (n + 1) d h ∙ ap (λ k. getD l (n + 1) d ∷ drop k l) (sym f))

@@ -1,0 +1,39 @@
+-- Tests: what a Bool that was computed says. `T b` is the fact that b is true.
+use mathlib.Core.Path.{_≡_, refl}
+use mathlib.Core.Logic.{_↔_, _⊎_, inl, inr, ⊎-elim}
+use mathlib.Core.Bool.{Bool, true, false, _&&_, _||_, false≢true}
+use Prim.Native.Nat.{ℕ, _≤_, _<_}
+use native.Mathlib.Decide.{decLe}
+use native.Mathlib.Omega.{arith}
+use lib.Dec.{T}
+
+-- two tests that say the same are equal
+pub T-ext : (a b : Bool) → T a ↔ T b → a ≡ b
+T-ext true true e = refl
+T-ext true false e = absurd (e .0 tt)
+T-ext false true e = absurd (e .1 tt)
+T-ext false false e = refl
+
+pub T-true : (a : Bool) → T a ↔ (a ≡ true)
+T-true true = (λ t. refl, λ e. tt)
+T-true false = (λ t. absurd t, λ e. absurd (false≢true e))
+
+pub T-and : (a b : Bool) → T (a && b) ↔ (T a × T b)
+T-and true b = (λ t. (tt, t), λ k. k .1)
+T-and false b = (λ t. absurd t, λ k. k .0)
+
+pub T-or : (a b : Bool) → T (a || b) ↔ (T a ⊎ T b)
+T-or true b = (λ t. inl tt, λ k. tt)
+T-or false b = (λ t. inr t, ⊎-elim (λ t. absurd t) (λ t. t))
+
+-- a test passes or it does not
+pub decide : (a : Bool) → T a ⊎ (T a → ⊥)
+decide true = inl tt
+decide false = inr (λ t. t)
+
+pub order : (a b : ℕ) → (a ≤ b) ⊎ (b < a)
+order a b = go (decLe a b)
+  where
+    go : Dec (a ≤ b) → (a ≤ b) ⊎ (b < a)
+    go (yes h) = inl h
+    go (no h) = inr (omega arith)

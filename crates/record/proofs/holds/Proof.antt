@@ -1,0 +1,87 @@
+use Rattle.front.specs.Pair.{pairOf, holdsAt}
+use mathlib.Core.Bool.{_||_}
+use mathlib.Core.Path.{_∙_}
+use Rattle.front.specs.Front.{holds}
+use Rattle.record.specs.Record.{listed, paired}
+use Rattle.record.proofs.Scans.{holds-next, holds-end}
+use lib.ListN.{drop}
+use mathlib.Core.Path.{_≡_, refl, sym, ap, _∙_}
+use Prim.Native.Nat.{ℕ, suc, _+_, _-_, _*_, _/_, _≤_, _<_}
+use native.Mathlib.Omega.{arith}
+use borrow.Author.Needs.{needs}
+use lib.ListN.{length, getD, set, length-set}
+use Rattle.record.proofs.holds.Statement.{statement}
+use Rattle.record.proofs.holds.Tie as tie
+use Rattle.record.proofs.holds.Reads as reads
+use Rattle.record.proofs.holds.Lts as lts
+use Rattle.front.proofs.Pair.holds.Reads as holds-reads
+use Rattle.front.proofs.Pair.new.Reads as new-reads
+
+abbrev Inv-loop : tie.InvT-loop
+Inv-loop bytes a b at₀ at = holds (listed bytes) a b ≡ holds (paired (drop at bytes)) a b
+
+abbrev μ-loop : tie.MeasureT-loop
+μ-loop bytes a b at₀ at = length bytes - at
+
+-- the test of a turn is of the pair at `at`
+held : (c : tie.After-holds Inv-loop μ-loop) → let l = c .before .before .before .before .before .before in let s = c .before .before .before .before .before .before .before .before in holdsAt (pairOf (getD (s .args .bytes .now) (l .loop .at) 0) (getD (s .args .bytes .now) (l .loop .at + 1) 0)) (s .args .a) (s .args .b) ≡ c .holds .result
+held c = ap (λ x. holdsAt x (c .before .before .before .before .before .before .before .before .args .a) (c .before .before .before .before .before .before .before .before .args .b)) (sym (c .before .new .ensures)) ∙ sym (c .holds .ensures)
+
+loop-holds : tie.Need-loop-holds Inv-loop μ-loop
+loop-holds c = refl
+
+sub-if1 : tie.Need-sub-if1 Inv-loop μ-loop
+sub-if1 c = search needs
+
+returns : tie.Need-returns Inv-loop μ-loop
+returns c = sym (c .before .before .loop .inv ∙ holds-end (c .before .before .before .before .args .bytes .now) (c .before .before .loop .at) (c .before .before .before .before .args .a) (c .before .before .before .before .args .b) (omega arith))
+
+shared-slice-read-new : tie.Need-shared-slice-read-new Inv-loop μ-loop
+shared-slice-read-new c = search needs
+
+add-new : tie.Need-add-new Inv-loop μ-loop
+add-new c = search needs
+
+shared-slice-read-new-2 : tie.Need-shared-slice-read-new-2 Inv-loop μ-loop
+shared-slice-read-new-2 c = search needs
+
+new-requires : tie.Need-new-requires Inv-loop μ-loop
+new-requires c κs = search needs
+
+holds-requires : tie.Need-holds-requires Inv-loop μ-loop
+holds-requires c κs = search needs
+
+returns-2 : tie.Need-returns-2 Inv-loop μ-loop
+returns-2 c = sym (c .before .before .before .before .before .before .before .loop .inv ∙ holds-next (c .before .before .before .before .before .before .before .before .before .args .bytes .now) (c .before .before .before .before .before .before .before .loop .at) (c .before .before .before .before .before .before .before .before .before .args .a) (c .before .before .before .before .before .before .before .before .before .args .b) (omega arith) ∙ rw (held (c .before) ∙ c .if2 .taken))
+
+add-at : tie.Need-add-at Inv-loop μ-loop
+add-at c = search needs
+
+loop-less : tie.Need-loop-less Inv-loop μ-loop
+loop-less c = search needs
+
+loop-again : tie.Need-loop-again Inv-loop μ-loop
+loop-again c = c .before .before .before .before .before .before .before .loop .inv ∙ holds-next (c .before .before .before .before .before .before .before .before .before .args .bytes .now) (c .before .before .before .before .before .before .before .loop .at) (c .before .before .before .before .before .before .before .before .before .args .a) (c .before .before .before .before .before .before .before .before .before .args .b) (omega arith) ∙ rw (held (c .before) ∙ c .if2 .left)
+
+returns-3 : tie.Need-returns-3 Inv-loop μ-loop
+returns-3 c = sym (c .before .loop .inv ∙ holds-end (c .before .before .before .args .bytes .now) (c .before .loop .at) (c .before .before .before .args .a) (c .before .before .before .args .b) (omega arith))
+
+pub holds-spec : {M : Type 1} → statement M
+holds-spec =
+    tie.close
+    (tie.spec
+    Inv-loop
+    μ-loop
+    loop-holds
+    sub-if1
+    returns
+    shared-slice-read-new
+    add-new
+    shared-slice-read-new-2
+    new-requires
+    holds-requires
+    returns-2
+    add-at
+    loop-less
+    loop-again
+    returns-3)

@@ -1,0 +1,50 @@
+use mathlib.Core.Path.{ap}
+use lib.ListN.{getD}
+use native.Mathlib.Omega.{arith}
+use mathlib.Core.Path.{ap₂, _∙_}
+use Rattle.front.specs.Pair.{pairOf}
+use borrow.Author.Needs.{needs}
+use Rattle.record.proofs.pair_at.Statement.{statement}
+use Rattle.record.proofs.pair_at.Tie as tie
+use Rattle.record.proofs.pair_at.Reads as reads
+use Rattle.record.proofs.pair_at.Lts as lts
+use Rattle.front.proofs.Pair.new.Reads as new-reads
+use Rattle.record.proofs.byte.Reads as byte-reads
+use Rattle.record.proofs.wide.Reads as wide-reads
+
+wide-requires : tie.Need-wide-requires
+wide-requires c κs = search needs
+
+mul-at : tie.Need-mul-at
+mul-at c = search needs
+
+add-at : tie.Need-add-at
+add-at c = search needs
+
+byte-requires : tie.Need-byte-requires
+byte-requires c κs = search needs
+
+add-byte : tie.Need-add-byte
+add-byte c = search needs
+
+byte-requires-2 : tie.Need-byte-requires-2
+byte-requires-2 c κs = search needs
+
+new-requires : tie.Need-new-requires
+new-requires c κs = search needs
+
+returns : tie.Need-returns
+returns c = c .new .ensures ∙ ap₂ pairOf (c .before .before .byte .ensures ∙ ap (λ n. getD (c .before .before .before .before .before .args .bytes .now) n 0) (omega arith)) (c .before .byte2 .ensures ∙ ap (λ n. getD (c .before .before .before .before .before .args .bytes .now) n 0) (omega arith))
+
+pub pair-at-spec : {M : Type 1} → statement M
+pair-at-spec =
+    tie.close
+    (tie.spec
+    wide-requires
+    mul-at
+    add-at
+    byte-requires
+    add-byte
+    byte-requires-2
+    new-requires
+    returns)

@@ -1,0 +1,89 @@
+-- A front record as bytes (document 01, "Positions, routes and the search"): n1, n2, k, then k pairs of bytes.
+use mathlib.Core.Path.{_≡_}
+use mathlib.Core.Bool.{Bool, true, _&&_}
+use mathlib.Core.List.{List, [], _∷_, _++_}
+use Prim.Native.Nat.{ℕ, _+_, _*_, _≤_, min}
+use lib.Dec.{T, leb, ltb, eqb}
+use lib.ListN.{length, getD, set, take, drop}
+use Rattle.laws.specs.Members.{_∈_, all}
+use Rattle.front.specs.declared.Pair.{Pair}
+use Rattle.front.specs.Pair.{pairOf}
+use Rattle.front.specs.Front.{holds, front, Within}
+
+-- ---- the parts of a record
+abbrev pub size1 : List ℕ → ℕ
+size1 b = getD b 0 0
+
+abbrev pub size2 : List ℕ → ℕ
+size2 b = getD b 1 0
+
+-- k
+abbrev pub count : List ℕ → ℕ
+count b = getD b 2 0
+
+-- bytes taken two by two, and back
+abbrev pub paired : List ℕ → List Pair
+paired [] = []
+paired (x ∷ []) = []
+paired (x ∷ y ∷ b) = pairOf x y ∷ paired b
+
+abbrev pub flat : List Pair → List ℕ
+flat [] = []
+flat (p ∷ l) = p .p1 .0 ∷ p .p2 .0 ∷ flat l
+
+-- the pairs that a record lists
+abbrev pub listed : List ℕ → List Pair
+listed b = paired (drop 3 b)
+
+-- the record that lists the pairs of l, and the record of l's front
+abbrev pub recordBytes : ℕ → ℕ → List Pair → List ℕ
+recordBytes n1 n2 l = n1 ∷ n2 ∷ length l ∷ flat l
+
+abbrev pub frontBytes : ℕ → ℕ → List Pair → List ℕ
+frontBytes n1 n2 l = recordBytes n1 n2 (front n1 n2 l)
+
+-- a record holds at (a, b) where one of its pairs does
+abbrev pub recordHolds : List ℕ → ℕ → ℕ → Bool
+recordHolds r a b = holds (listed r) a b
+
+-- ---- THE TEST OF A RECORD (01: number 12 is "not a front record")
+-- p1 lies in 1 to n1 + 1, p2 in 1 to n2 + 1
+abbrev pub inRange : ℕ → ℕ → Pair → Bool
+inRange n1 n2 p = leb 1 (p .p1 .0) && leb (p .p1 .0) (n1 + 1) && (leb 1 (p .p2 .0) && leb (p .p2 .0) (n2 + 1))
+
+-- p1 strictly falling, p2 strictly rising
+abbrev pub follows : Pair → Pair → Bool
+follows p q = ltb (q .p1 .0) (p .p1 .0) && ltb (p .p2 .0) (q .p2 .0)
+
+abbrev pub fallsFrom : Pair → List Pair → Bool
+fallsFrom p [] = true
+fallsFrom p (q ∷ l) = follows p q && fallsFrom q l
+
+abbrev pub falling : List Pair → Bool
+falling [] = true
+falling (p ∷ l) = fallsFrom p l
+
+abbrev pub isRecord : List ℕ → Bool
+isRecord b =
+    (leb (size1 b) 64 && leb (size2 b) 64)
+    && (eqb (length b) (3 + 2 * count b) && leb (count b) (min (size1 b) (size2 b) + 1))
+    && (all (inRange (size1 b) (size2 b)) (listed b) && falling (listed b))
+
+-- ---- a record that is being built: it stands at the start of a longer buffer
+abbrev pub recordIn : List ℕ → List ℕ
+recordIn b = take (3 + 2 * count b) b
+
+-- the buffer with p stored at a place, as the last pair then
+abbrev pub stored : List ℕ → ℕ → Pair → List ℕ
+stored b at p = set (set (set b 2 (at + 1)) (3 + 2 * at) (p .p1 .0)) (3 + 2 * at + 1) (p .p2 .0)
+
+-- the pair at a place of a record; (0, 0), which holds nowhere, past its bytes
+abbrev pub pairAt : List ℕ → ℕ → Pair
+pairAt b i = pairOf (getD b (3 + 2 * i) 0) (getD b (4 + 2 * i) 0)
+
+-- what `put` asks: the buffer begins with a record, and p is in range and has the least p1
+pub record Puttable (b : List ℕ) (p : Pair) : Type 0 where
+  pub long : length b ≡ 133
+  pub good : T (isRecord (recordIn b))
+  pub inside : Within (size1 b) (size2 b) p
+  pub least : (q : Pair) → q ∈ listed (recordIn b) → p .p1 .0 ≤ q .p1 .0
