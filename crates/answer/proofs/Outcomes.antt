@@ -1,11 +1,11 @@
 -- Tests in two stages: what the first ones settle, the later ones do not change.
-use mathlib.Core.Path.{_≡_, refl, sym, _∙_, subst}
+use mathlib.Core.Path.{_≡_, refl, sym, subst}
 use mathlib.Core.Bool.{Bool, true, false, cond}
 use mathlib.Core.List.{List, [], _∷_, _++_}
 use Prim.Native.Nat.{ℕ}
 use Rattle.laws.specs.First.{first-none}
 use Rattle.laws.specs.Members.{_∈_}
-use Rattle.answer.specs.Outcome.{Outcome, success, refused, outcome, left, deliverAnswer, deliverLeft}
+use Rattle.answer.specs.Outcome.{Outcome, success, refused, outcome}
 
 apart : (n : ℕ) (v : List ℕ) → refused n ≡ success v → ⊥
 apart n v e = subst tell e tt

@@ -6,10 +6,10 @@ use lib.Dec.{ltb}
 use lib.ListN.{length, drop}
 use Rattle.laws.specs.First.{firstTrue}
 use Rattle.answer.specs.declared.Refusal.{Refusal}
-use Rattle.answer.specs.declared.Refusal.the-variants as refusal
 use Rattle.answer.specs.declared.Written.{Written}
-use Rattle.answer.specs.declared.Written.the-variants as written-as
 use Rattle.answer.specs.declared.Done.{Done}
+use Rattle.answer.specs.declared.Refusal.the-variants as refusal
+use Rattle.answer.specs.declared.Written.the-variants as written-as
 use Rattle.answer.specs.declared.Done.the-variants as done-as
 
 -- a success and its values, or a refusal and its number
@@ -22,10 +22,10 @@ pub data Outcome : Type 0 where
 abbrev pub outcome : List (ℕ × Bool) → List ℕ → Outcome
 outcome tests values = firstTrue refused (success values) tests
 
--- what a call leaves in the slice that it fills: the bytes and then the rest as it was; on a refusal everything as it was
-abbrev pub left : Outcome → List ℕ → List ℕ → List ℕ
-left (success values) bytes old = bytes ++ drop (length bytes) old
-left (refused n) bytes old = old
+-- the slice that a call fills, afterwards: the bytes and then the rest as it was; on a refusal everything as it was
+abbrev pub filled : Outcome → List ℕ → List ℕ → List ℕ
+filled (success values) bytes old = bytes ++ drop (length bytes) old
+filled (refused n) bytes old = old
 
 -- ---- the enums of the code
 -- document 01's number of each refusal
@@ -65,5 +65,5 @@ done (done-as.Refused r) = refused (numberOf r)
 abbrev pub deliverAnswer : List ℕ → ℕ → Outcome
 deliverAnswer bytes room = outcome ((15, ltb room (length bytes)) ∷ []) (length bytes ∷ [])
 
-abbrev pub deliverLeft : List ℕ → List ℕ → List ℕ
-deliverLeft bytes out = left (deliverAnswer bytes (length out)) bytes out
+abbrev pub deliverOut : List ℕ → List ℕ → List ℕ
+deliverOut bytes out = filled (deliverAnswer bytes (length out)) bytes out

@@ -1,7 +1,7 @@
 // What the calls answer: a refusal with its number, or the values of a success.
 ghost use mathlib.Core.Path.{_≡_};
 ghost use lib.ListN.{length};
-ghost use Rattle.answer.specs.Outcome.{numberOf, written, deliverAnswer, deliverLeft};
+ghost use Rattle.answer.specs.Outcome.{numberOf, written, deliverAnswer, deliverOut};
 
 // Why a call refuses: a case for each number of document 01's two lists.
 pub enum Refusal {
@@ -73,7 +73,7 @@ pub fn number(refusal: Refusal) -> u32
 // fills a slice of bytes.
 pub fn deliver(bytes: &[u8], out: &mut [u8]) -> Written
     ensures answer { λ r. ⌜ written r ≡ deliverAnswer (now (bytes .entry)) (length (now (out .entry))) ⌝ }
-    ensures left { λ _. ⌜ now (out .exit) ≡ deliverLeft (now (bytes .entry)) (now (out .entry)) ⌝ }
+    ensures slice { λ _. ⌜ now (out .exit) ≡ deliverOut (now (bytes .entry)) (now (out .entry)) ⌝ }
 {
     if out.len() < bytes.len() {
         return Written::Refused(Refusal::OutputShort);

@@ -6,12 +6,12 @@ use native.Mathlib.Omega.{arith}
 use Rattle.front.specs.declared.Pair.{Pair}
 use Rattle.front.specs.Front.{front, holds, minima, series, parallel, RecordForm}
 use Rattle.front.proofs.Fronts.{front-form, form-same}
-use Rattle.front.proofs.Joins as joins
 use Rattle.record.specs.Record.{listed, recordBytes, frontBytes, recordHolds}
 use Rattle.record.proofs.Bytes.{paired-flat, record-whole}
 use Rattle.record.proofs.Records.{record-is, form-is-record, record-few}
 use Rattle.compose.specs.Compose.{seriesBytes, parallelBytes}
 use Rattle.compose.specs.Laws.{Sized, Laws}
+use Rattle.front.proofs.Joins as joins
 
 module _ {n1 n2 : ℕ} where
   form : {x : List ℕ} → Sized n1 n2 x → RecordForm n1 n2 (listed x)

@@ -1,23 +1,23 @@
 -- The answer of a join in two stages: the tests of the records, and then `deliver`.
-use mathlib.Core.Path.{_≡_, refl, sym, ap, ap₂, _∙_}
+use mathlib.Core.Path.{_≡_, sym, ap}
 use mathlib.Core.Bool.{not, _&&_}
 use mathlib.Core.List.{List, [], _∷_}
 use Prim.Native.Nat.{ℕ}
 use borrow.Author.Tests.{not-false}
-use lib.Dec.{T, ltb}
+use lib.Dec.{ltb}
 use lib.ListN.{length}
 use Rattle.laws.specs.Tests.{T-true, T-and}
 use Rattle.laws.specs.Members.{here, there}
-use Rattle.answer.specs.Outcome.{success, refused, outcome, left, deliverAnswer, deliverLeft}
+use Rattle.answer.specs.Outcome.{success, refused, outcome, filled, deliverAnswer, deliverOut}
 use Rattle.answer.proofs.Outcomes.{outcome-tests, outcome-refused, outcome-passed}
 use Rattle.record.specs.Record.{isRecord}
-use Rattle.compose.specs.Compose.{sameSizes, recordTests, joinAnswer, joinLeft, Joinable}
+use Rattle.compose.specs.Compose.{sameSizes, recordTests, joinAnswer, joinOut, Joinable}
 
 module _ (x y : List ℕ) where
-  pub joined-refused : (n : ℕ) → outcome (recordTests x y) (0 ∷ []) ≡ refused n → (bytes out : List ℕ) → (refused n ≡ joinAnswer x y bytes (length out)) × (out ≡ joinLeft x y bytes out)
+  pub joined-refused : (n : ℕ) → outcome (recordTests x y) (0 ∷ []) ≡ refused n → (bytes out : List ℕ) → (refused n ≡ joinAnswer x y bytes (length out)) × (out ≡ joinOut x y bytes out)
   joined-refused n e bytes out =
       let f = sym (outcome-refused (recordTests x y) ((15, ltb (length out) (length bytes)) ∷ []) (0 ∷ []) (length bytes ∷ []) n e) in
-      (f, ap (λ o. left o bytes out) f)
+      (f, ap (λ o. filled o bytes out) f)
 
   module _ (e : outcome (recordTests x y) (0 ∷ []) ≡ success (0 ∷ [])) where
     pub joined-joinable : Joinable x y
@@ -26,7 +26,7 @@ module _ (x y : List ℕ) where
         let r = T-and (isRecord x) (isRecord y) .0 (T-true (isRecord x && isRecord y) .1 (not-false (isRecord x && isRecord y) (t (12, not (isRecord x && isRecord y)) here))) in
         record { left-is = r .0; right-is = r .1; same = T-true (sameSizes x y) .1 (not-false (sameSizes x y) (t (13, not (sameSizes x y)) (there here))) }
 
-    pub joined-delivered : (bytes out : List ℕ) → (deliverAnswer bytes (length out) ≡ joinAnswer x y bytes (length out)) × (deliverLeft bytes out ≡ joinLeft x y bytes out)
+    pub joined-delivered : (bytes out : List ℕ) → (deliverAnswer bytes (length out) ≡ joinAnswer x y bytes (length out)) × (deliverOut bytes out ≡ joinOut x y bytes out)
     joined-delivered bytes out =
         let f = sym (outcome-passed (recordTests x y) ((15, ltb (length out) (length bytes)) ∷ []) (0 ∷ []) (length bytes ∷ []) e) in
-        (f, ap (λ o. left o bytes out) f)
+        (f, ap (λ o. filled o bytes out) f)

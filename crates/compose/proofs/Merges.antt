@@ -17,7 +17,8 @@ use Rattle.front.specs.Pair.{pairOf, minPair, holdsAt}
 use Rattle.front.specs.Front.{holds, minima, Within, Falls, RecordForm}
 use Rattle.front.proofs.Pairs.{numbers, holds-is, min-holds}
 use Rattle.front.proofs.Joins.{minima-within, minima-holds, append-within}
-use Rattle.record.specs.Record.{size1, size2, listed, frontBytes, recordIn, Puttable}
+use Rattle.record.specs.Record.{size1, size2, listed, frontBytes}
+use Rattle.record.specs.Buffer.{recordIn, longest, Puttable}
 use Rattle.record.proofs.Records.{record-is}
 use Rattle.record.proofs.Collects.{Where, Collects, collects-none, collects-puttable, collects-more, collects-all}
 use Rattle.compose.specs.Compose.{Joinable}
@@ -116,7 +117,7 @@ merging-none {x = x} {y = y} k e f g =
 
 -- what `put` left after the pair c
 abbrev pub PutIn : List ℕ → Pair → List ℕ → Type 0
-PutIn b c b′ = (length b′ ≡ 133) × (recordIn b′ ≡ frontBytes (size1 b) (size2 b) (listed (recordIn b) ++ (c ∷ [])))
+PutIn b c b′ = (length b′ ≡ longest) × (recordIn b′ ≡ frontBytes (size1 b) (size2 b) (listed (recordIn b) ++ (c ∷ [])))
 
 -- ---- series
 module _ {n1 n2 : ℕ} {l r : List Pair} {i j : ℕ} {b : List ℕ} (m : Merging both min n1 n2 l r i j b) (hi : i < length l) (hj : j < length r) {p q c : Pair} (ep : p ≡ at l i) (eq : q ≡ at r j) (ec : c ≡ minPair p q) where

@@ -1,11 +1,10 @@
 -- Series and parallel of two records (document 01, "Row and side"): what the two calls write, answer and leave.
-use mathlib.Core.Path.{_≡_}
 use mathlib.Core.Bool.{Bool, not, _&&_}
 use mathlib.Core.List.{List, [], _∷_, _++_}
 use Prim.Native.Nat.{ℕ}
 use lib.Dec.{T, eqb, ltb}
 use lib.ListN.{length}
-use Rattle.answer.specs.Outcome.{Outcome, outcome, left}
+use Rattle.answer.specs.Outcome.{Outcome, outcome, filled}
 use Rattle.front.specs.Front.{series, parallel}
 use Rattle.record.specs.Record.{size1, size2, listed, recordBytes, isRecord}
 
@@ -30,20 +29,20 @@ joinTests x y bytes room = recordTests x y ++ ((15, ltb room (length bytes)) ∷
 abbrev pub joinAnswer : List ℕ → List ℕ → List ℕ → ℕ → Outcome
 joinAnswer x y bytes room = outcome (joinTests x y bytes room) (length bytes ∷ [])
 
-abbrev pub joinLeft : List ℕ → List ℕ → List ℕ → List ℕ → List ℕ
-joinLeft x y bytes out = left (joinAnswer x y bytes (length out)) bytes out
+abbrev pub joinOut : List ℕ → List ℕ → List ℕ → List ℕ → List ℕ
+joinOut x y bytes out = filled (joinAnswer x y bytes (length out)) bytes out
 
 abbrev pub seriesAnswer : List ℕ → List ℕ → ℕ → Outcome
 seriesAnswer x y room = joinAnswer x y (seriesBytes x y) room
 
-abbrev pub seriesLeft : List ℕ → List ℕ → List ℕ → List ℕ
-seriesLeft x y out = joinLeft x y (seriesBytes x y) out
+abbrev pub seriesOut : List ℕ → List ℕ → List ℕ → List ℕ
+seriesOut x y out = joinOut x y (seriesBytes x y) out
 
 abbrev pub parallelAnswer : List ℕ → List ℕ → ℕ → Outcome
 parallelAnswer x y room = joinAnswer x y (parallelBytes x y) room
 
-abbrev pub parallelLeft : List ℕ → List ℕ → List ℕ → List ℕ
-parallelLeft x y out = joinLeft x y (parallelBytes x y) out
+abbrev pub parallelOut : List ℕ → List ℕ → List ℕ → List ℕ
+parallelOut x y out = joinOut x y (parallelBytes x y) out
 
 -- two records that may be joined: neither 12 nor 13
 pub record Joinable (x y : List ℕ) : Type 0 where

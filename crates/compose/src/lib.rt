@@ -9,13 +9,13 @@ ghost use mathlib.Core.Path.{_≡_};
 ghost use mathlib.Core.List.{[], _∷_};
 ghost use lib.ListN.{length};
 ghost use Rattle.answer.specs.Outcome.{written, done, outcome};
-ghost use Rattle.record.specs.Record.{recordIn};
-ghost use Rattle.compose.specs.Compose.{Joinable, recordTests, seriesBytes, parallelBytes, seriesAnswer, seriesLeft, parallelAnswer, parallelLeft};
+ghost use Rattle.record.specs.Buffer.{recordIn};
+ghost use Rattle.compose.specs.Compose.{Joinable, recordTests, seriesBytes, parallelBytes, seriesAnswer, seriesOut, parallelAnswer, parallelOut};
 
 // The series of two records: it holds where both do.
 pub fn series(left: &[u8], right: &[u8], out: &mut [u8]) -> Written
     ensures answer { λ r. ⌜ written r ≡ seriesAnswer (now (left .entry)) (now (right .entry)) (length (now (out .entry))) ⌝ }
-    ensures bytes { λ _. ⌜ now (out .exit) ≡ seriesLeft (now (left .entry)) (now (right .entry)) (now (out .entry)) ⌝ }
+    ensures slice { λ _. ⌜ now (out .exit) ≡ seriesOut (now (left .entry)) (now (right .entry)) (now (out .entry)) ⌝ }
 {
     if let Done::Refused(r) = joinable(left, right) {
         return Written::Refused(r);
@@ -26,7 +26,7 @@ pub fn series(left: &[u8], right: &[u8], out: &mut [u8]) -> Written
 // The parallel of two records: it holds where one of them does.
 pub fn parallel(left: &[u8], right: &[u8], out: &mut [u8]) -> Written
     ensures answer { λ r. ⌜ written r ≡ parallelAnswer (now (left .entry)) (now (right .entry)) (length (now (out .entry))) ⌝ }
-    ensures bytes { λ _. ⌜ now (out .exit) ≡ parallelLeft (now (left .entry)) (now (right .entry)) (now (out .entry)) ⌝ }
+    ensures slice { λ _. ⌜ now (out .exit) ≡ parallelOut (now (left .entry)) (now (right .entry)) (now (out .entry)) ⌝ }
 {
     if let Done::Refused(r) = joinable(left, right) {
         return Written::Refused(r);
@@ -50,7 +50,7 @@ fn joinable(left: &[u8], right: &[u8]) -> Done
 
 // The front of all pairwise minima. Of two pairs the one with the smaller p2 is done with: its
 // minimum with any later pair of the other record is no larger.
-fn merge_series(left: &[u8], right: &[u8]) -> [u8; 133]
+fn merge_series(left: &[u8], right: &[u8]) -> [u8; record::LONGEST]
     requires { ⌜ Joinable (now left) (now right) ⌝ }
     ensures { λ r. ⌜ recordIn r ≡ seriesBytes (now (left .entry)) (now (right .entry)) ⌝ }
 {
@@ -76,7 +76,7 @@ fn merge_series(left: &[u8], right: &[u8]) -> [u8; 133]
 }
 
 // The front of both lists together, taken in the order of falling p1.
-fn merge_parallel(left: &[u8], right: &[u8]) -> [u8; 133]
+fn merge_parallel(left: &[u8], right: &[u8]) -> [u8; record::LONGEST]
     requires { ⌜ Joinable (now left) (now right) ⌝ }
     ensures { λ r. ⌜ recordIn r ≡ parallelBytes (now (left .entry)) (now (right .entry)) ⌝ }
 {

@@ -1,11 +1,11 @@
 -- Series holds where both lists do and parallel where one does; the laws of the two follow from those of "and" and "or".
 use mathlib.Core.Path.{_≡_, refl, sym, ap₂, _∙_}
-use mathlib.Core.Logic.{_↔_, ⊎-elim}
-use mathlib.Core.Bool.{Bool, _&&_, _||_, and-or-distrib-right, and-false, and-comm, or-comm, and-assoc, or-assoc, and-self, or-self, and-or-distrib-left, or-and-distrib-left}
+use mathlib.Core.Logic.{⊎-elim}
+use mathlib.Core.Bool.{_&&_, _||_, and-or-distrib-right, and-false, and-comm, or-comm, and-assoc, or-assoc, and-self, or-self, and-or-distrib-left, or-and-distrib-left}
 use mathlib.Core.List.{List, [], _∷_, _++_, map, List·Memᴰ·append-cases, Memᴰ·of-map}
 use Prim.Native.Nat.{ℕ}
 use native.Mathlib.Omega.{arith}
-use Rattle.laws.specs.Members.{_∈_, here, there, any-append}
+use Rattle.laws.specs.Members.{here, there, any-append}
 use Rattle.front.specs.declared.Pair.{Pair}
 use Rattle.front.specs.Pair.{minPair, holdsAt}
 use Rattle.front.specs.Front.{holds, front, minima, series, parallel, AllWithin, RecordForm}

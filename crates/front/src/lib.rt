@@ -1,50 +1,19 @@
-// Positions of the two classes, and the pair of a path.
+// Positions of the two classes, and the pair of a path (01: route).
 //
 // The two kinds of position are types of their own, so that a minimum or a comparison never
 // crosses classes.
+mod class1;
+mod class2;
+
+pub use class1::Pos1;
+pub use class2::Pos2;
 ghost use mathlib.Core.Path.{_≡_};
-ghost use Prim.Native.Nat.{min};
-ghost use lib.Dec.{leb};
 ghost use Rattle.front.specs.Pair.{pairOf, minPair, covers, same, dominates, holdsAt};
-
-// A position of class 1, counted from 1; n1 + 1 stands for no node of the class.
-pub struct Pos1(pub u8);
-
-// A position of class 2, counted from 1; n2 + 1 stands for no node of the class.
-pub struct Pos2(pub u8);
 
 // The least position of each class on a path.
 pub struct Pair {
     pub p1: Pos1,
     pub p2: Pos2,
-}
-
-impl Pos1 {
-    pub fn min(self, other: Pos1) -> Pos1
-        ensures { λ r. ⌜ r .0 ≡ min (self .0) (other .0) ⌝ }
-    {
-        if self.0 < other.0 { self } else { other }
-    }
-
-    pub fn at_least(self, other: Pos1) -> bool
-        ensures { λ r. ⌜ r ≡ leb (other .0) (self .0) ⌝ }
-    {
-        other.0 <= self.0
-    }
-}
-
-impl Pos2 {
-    pub fn min(self, other: Pos2) -> Pos2
-        ensures { λ r. ⌜ r .0 ≡ min (self .0) (other .0) ⌝ }
-    {
-        if self.0 < other.0 { self } else { other }
-    }
-
-    pub fn at_least(self, other: Pos2) -> bool
-        ensures { λ r. ⌜ r ≡ leb (other .0) (self .0) ⌝ }
-    {
-        other.0 <= self.0
-    }
 }
 
 impl Pair {

@@ -15,7 +15,8 @@ use Rattle.front.specs.Pair.{pairOf, covers, dominates}
 use Rattle.front.specs.Front.{front, Falls, AtMost, RecordForm}
 use Rattle.front.proofs.Pairs.{Above, covers-is, dominates-is}
 use Rattle.front.proofs.Fronts.{form-short}
-use Rattle.record.specs.Record.{size1, size2, count, flat, listed, recordBytes, frontBytes, recordIn, stored, pairAt, Puttable}
+use Rattle.record.specs.Record.{size1, size2, count, flat, listed, recordBytes, frontBytes, pairAt}
+use Rattle.record.specs.Buffer.{recordIn, stored, Puttable}
 use Rattle.record.proofs.Bytes.{flat-length, flat-append, take-flat, pair-at, listed-length, record-whole}
 use Rattle.record.proofs.Records.{IsRecord, record-is}
 use Rattle.record.proofs.Puts.{put-first, put-covered, put-over, put-form, put-behind}

@@ -1,9 +1,9 @@
 -- Pairs as bytes and back.
 use mathlib.Core.Path.{_≡_, refl, sym, ap, ap₂}
 use mathlib.Core.List.{List, [], _∷_, _++_}
-use Prim.Native.Nat.{ℕ, zero, suc, _+_, _*_, _≤_, _<_}
+use Prim.Native.Nat.{ℕ, zero, suc, _+_, _*_, _≤_}
 use native.Mathlib.Omega.{arith}
-use lib.ListN.{length, getD, take, drop}
+use lib.ListN.{length, getD, take}
 use Rattle.front.specs.declared.Pair.{Pair}
 use Rattle.front.specs.Pair.{pairOf}
 use Rattle.record.specs.Record.{size1, size2, count, paired, flat, listed, recordBytes, pairAt}

@@ -1,11 +1,11 @@
 -- A front collected in a buffer, pair by pair, p1 never rising: the pairs so far and what is still to come hold where the whole does.
 use mathlib.Core.Path.{_≡_, refl, sym, ap, ap₂, _∙_, subst}
-use mathlib.Core.Logic.{_↔_, ⊎-elim}
+use mathlib.Core.Logic.{⊎-elim}
 use mathlib.Core.Bool.{Bool, false, _||_, or-false, or-assoc}
 use mathlib.Core.List.{List, [], _∷_, _++_, List·Memᴰ·append-cases, List·Memᴰ·eq-of-singleton}
 use Prim.Native.Nat.{ℕ, _+_, _*_, _≤_, _<_}
 use native.Mathlib.Omega.{arith}
-use lib.ListN.{length, getD, replicate, length-replicate}
+use lib.ListN.{length, getD, replicate}
 use lib.Seq.{getD-take}
 use Rattle.laws.specs.Members.{_∈_, any-append}
 use Rattle.front.specs.declared.Pair.{Pair}
@@ -14,7 +14,8 @@ use Rattle.front.specs.Front.{holds, front, Within, AllWithin, RecordForm}
 use Rattle.front.proofs.Pairs.{numbers}
 use Rattle.front.proofs.Fronts.{front-are, front-form, front-holds, form-same}
 use Rattle.front.proofs.Joins.{append-within}
-use Rattle.record.specs.Record.{size1, size2, count, listed, recordBytes, frontBytes, recordIn, Puttable}
+use Rattle.record.specs.Record.{size1, size2, count, listed, recordBytes, frontBytes}
+use Rattle.record.specs.Buffer.{recordIn, longest, Puttable}
 use Rattle.record.proofs.Bytes.{paired-flat}
 use Rattle.record.proofs.Records.{IsRecord, record-is, form-is-record}
 
@@ -24,7 +25,7 @@ Where = ℕ → ℕ → Bool
 
 -- the buffer b has collected some of `whole`; `rest` is to come, with no p1 above `top`
 pub record Collects (n1 n2 : ℕ) (whole rest : Where) (top : ℕ) (b : List ℕ) : Type 0 where
-  pub long : length b ≡ 133
+  pub long : length b ≡ longest
   pub small1 : n1 ≤ 64
   pub small2 : n2 ≤ 64
   pub done : List Pair
@@ -69,7 +70,7 @@ module _ {n1 n2 : ℕ} {whole rest : Where} {top : ℕ} {b : List ℕ} (c : Coll
         }
 
     -- one pair more: what `put` leaves
-    pub collects-more : {next : Where} {top′ : ℕ} {b′ : List ℕ} → length b′ ≡ 133 → recordIn b′ ≡ frontBytes (size1 b) (size2 b) (listed (recordIn b) ++ (p ∷ []))
+    pub collects-more : {next : Where} {top′ : ℕ} {b′ : List ℕ} → length b′ ≡ longest → recordIn b′ ≡ frontBytes (size1 b) (size2 b) (listed (recordIn b) ++ (p ∷ []))
         → ((x y : ℕ) → rest x y ≡ (holdsAt p x y || next x y)) → top′ ≤ p .p1 .0 → Collects n1 n2 whole next top′ b′
     collects-more {next} {top′} {b′} l e step lower =
         let m = c .done ++ (p ∷ []) in

@@ -1,13 +1,13 @@
 -- The front of a list in record form and one pair more, whose p1 is the least: the pair comes behind the last, over it, or not at all.
-use mathlib.Core.Path.{_≡_, refl, sym, ap, _∙_, subst}
+use mathlib.Core.Path.{_≡_, sym, subst}
 use mathlib.Core.Logic.{⊎-elim}
 use mathlib.Core.List.{List, [], _∷_, _++_, List·Memᴰ·append-cases, Memᴰ·append-left, Memᴰ·append-right, List·Memᴰ·eq-of-singleton}
-use Prim.Native.Nat.{ℕ, _≤_, _<_}
+use Prim.Native.Nat.{ℕ, _≤_}
 use native.Mathlib.Omega.{arith}
 use Rattle.laws.specs.Members.{_∈_, here}
 use Rattle.laws.specs.Pairwise.{pairwise-append, pairwise-left, pairwise-across}
 use Rattle.front.specs.declared.Pair.{Pair}
-use Rattle.front.specs.Front.{front, Within, Falls, RecordForm, AtMost, Under}
+use Rattle.front.specs.Front.{front, Within, Falls, RecordForm, AtMost}
 use Rattle.front.proofs.Pairs.{Above, numbers}
 use Rattle.front.proofs.Fronts.{form-front, form-is-front}
 

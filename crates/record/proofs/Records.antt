@@ -1,21 +1,21 @@
 -- The test of number 12 says that the bytes list a front in record form.
-use mathlib.Core.Path.{_≡_, refl, sym, ap, _∙_, subst}
-use mathlib.Core.Logic.{_↔_, ⊎-elim, Iff·trans}
-use mathlib.Core.Bool.{Bool, false, _&&_}
+use mathlib.Core.Path.{_≡_, sym, ap, _∙_, subst}
+use mathlib.Core.Logic.{_↔_, ⊎-elim}
+use mathlib.Core.Bool.{false, _&&_}
 use mathlib.Core.List.{List, [], _∷_, List·Memᴰ·cases-cons}
-use Prim.Native.Nat.{ℕ, suc, _+_, _*_, _≤_, _<_, min}
+use Prim.Native.Nat.{ℕ, _+_, _*_, _≤_, min}
 use native.Mathlib.Omega.{arith}
 use borrow.Author.Tests.{le-leb, eq-eqb}
 use lib.Dec.{T, leb, ltb, eqb, leb→le, le→leb, ltb→lt, lt→ltb, eqb→eq, eqb-refl}
 use lib.ListN.{length}
 use Rattle.laws.specs.Tests.{T-ext, T-and}
-use Rattle.laws.specs.Members.{_∈_, here, there, all, all-are}
+use Rattle.laws.specs.Members.{here, all, all-are}
 use Rattle.laws.specs.Pairwise.{Pairwise}
 use Rattle.front.specs.declared.Pair.{Pair}
-use Rattle.front.specs.Front.{front, Within, AllWithin, Falls, RecordForm}
+use Rattle.front.specs.Front.{front, Within, Falls, RecordForm}
 use Rattle.front.proofs.Pairs.{numbers}
 use Rattle.front.proofs.Fronts.{front-form, form-front, form-short}
-use Rattle.record.specs.Record.{size1, size2, count, listed, recordBytes, frontBytes, inRange, follows, fallsFrom, falling, isRecord}
+use Rattle.record.specs.Record.{size1, size2, count, listed, recordBytes, inRange, follows, fallsFrom, falling, isRecord, ListsFront}
 use Rattle.record.proofs.Bytes.{paired-flat, flat-length, listed-length, record-whole}
 
 pub range-is : (n1 n2 : ℕ) (p : Pair) → T (inRange n1 n2 p) ↔ Within n1 n2 p
@@ -120,12 +120,19 @@ pub form-is-record : (n1 n2 : ℕ) (l : List Pair) → n1 ≤ 64 → n2 ≤ 64 �
 form-is-record n1 n2 l h k r =
     record { small1 = h; small2 = k; long = omega (arith, flat-length l); form = subst (λ m. RecordForm n1 n2 m) (sym (paired-flat l)) r }
 
--- NUMBER 12: bytes pass the test exactly when they list the front of some pairs, in record form, for class sizes at most 64
-pub record-front : (b : List ℕ)
-    → T (isRecord b) ↔ ((n1 n2 : ℕ) × (l : List Pair) × (n1 ≤ 64) × (n2 ≤ 64) × AllWithin n1 n2 l × (b ≡ frontBytes n1 n2 l))
+-- NUMBER 12: bytes pass the test exactly when they list a front in record form
+pub record-front : (b : List ℕ) → T (isRecord b) ↔ ListsFront b
 record-front b = (
   λ t.
       let r = record-is b .0 t in
-      (size1 b, size2 b, listed b, r .small1, r .small2, r .form .within, record-whole b (r .long) ∙ ap (recordBytes (size1 b) (size2 b)) (sym (form-front (size1 b) (size2 b) (listed b) (r .form)))),
-  λ f. record-is b .1 (subst IsRecord (sym (f .6)) (form-is-record (f .0) (f .1) (front (f .0) (f .1) (f .2)) (f .3) (f .4) (front-form (f .0) (f .1) (f .2)))),
+      record {
+        n1 = size1 b;
+        n2 = size2 b;
+        pairs = listed b;
+        small1 = r .small1;
+        small2 = r .small2;
+        within = r .form .within;
+        bytes = record-whole b (r .long) ∙ ap (recordBytes (size1 b) (size2 b)) (sym (form-front (size1 b) (size2 b) (listed b) (r .form)));
+      },
+  λ f. record-is b .1 (subst IsRecord (sym (f .bytes)) (form-is-record (f .n1) (f .n2) (front (f .n1) (f .n2) (f .pairs)) (f .small1) (f .small2) (front-form (f .n1) (f .n2) (f .pairs)))),
 )

@@ -1,14 +1,14 @@
 -- A front record as bytes (document 01, "Positions, routes and the search"): n1, n2, k, then k pairs of bytes.
 use mathlib.Core.Path.{_≡_}
 use mathlib.Core.Bool.{Bool, true, _&&_}
-use mathlib.Core.List.{List, [], _∷_, _++_}
+use mathlib.Core.List.{List, [], _∷_}
 use Prim.Native.Nat.{ℕ, _+_, _*_, _≤_, min}
-use lib.Dec.{T, leb, ltb, eqb}
-use lib.ListN.{length, getD, set, take, drop}
-use Rattle.laws.specs.Members.{_∈_, all}
+use lib.Dec.{leb, ltb, eqb}
+use lib.ListN.{length, getD, drop}
+use Rattle.laws.specs.Members.{all}
 use Rattle.front.specs.declared.Pair.{Pair}
 use Rattle.front.specs.Pair.{pairOf}
-use Rattle.front.specs.Front.{holds, front, Within}
+use Rattle.front.specs.Front.{holds, front, AllWithin}
 
 -- ---- the parts of a record
 abbrev pub size1 : List ℕ → ℕ
@@ -34,6 +34,10 @@ flat (p ∷ l) = p .p1 .0 ∷ p .p2 .0 ∷ flat l
 -- the pairs that a record lists
 abbrev pub listed : List ℕ → List Pair
 listed b = paired (drop 3 b)
+
+-- the pair at a place of a record; (0, 0), which holds nowhere, past its bytes
+abbrev pub pairAt : List ℕ → ℕ → Pair
+pairAt b i = pairOf (getD b (3 + 2 * i) 0) (getD b (4 + 2 * i) 0)
 
 -- the record that lists the pairs of l, and the record of l's front
 abbrev pub recordBytes : ℕ → ℕ → List Pair → List ℕ
@@ -69,21 +73,12 @@ isRecord b =
     && (eqb (length b) (3 + 2 * count b) && leb (count b) (min (size1 b) (size2 b) + 1))
     && (all (inRange (size1 b) (size2 b)) (listed b) && falling (listed b))
 
--- ---- a record that is being built: it stands at the start of a longer buffer
-abbrev pub recordIn : List ℕ → List ℕ
-recordIn b = take (3 + 2 * count b) b
-
--- the buffer with p stored at a place, as the last pair then
-abbrev pub stored : List ℕ → ℕ → Pair → List ℕ
-stored b at p = set (set (set b 2 (at + 1)) (3 + 2 * at) (p .p1 .0)) (3 + 2 * at + 1) (p .p2 .0)
-
--- the pair at a place of a record; (0, 0), which holds nowhere, past its bytes
-abbrev pub pairAt : List ℕ → ℕ → Pair
-pairAt b i = pairOf (getD b (3 + 2 * i) 0) (getD b (4 + 2 * i) 0)
-
--- what `put` asks: the buffer begins with a record, and p is in range and has the least p1
-pub record Puttable (b : List ℕ) (p : Pair) : Type 0 where
-  pub long : length b ≡ 133
-  pub good : T (isRecord (recordIn b))
-  pub inside : Within (size1 b) (size2 b) p
-  pub least : (q : Pair) → q ∈ listed (recordIn b) → p .p1 .0 ≤ q .p1 .0
+-- what the test says: the bytes list the front of some pairs, in record form, for class sizes at most 64
+pub record ListsFront (b : List ℕ) : Type 0 where
+  pub n1 : ℕ
+  pub n2 : ℕ
+  pub pairs : List Pair
+  pub small1 : n1 ≤ 64
+  pub small2 : n2 ≤ 64
+  pub within : AllWithin n1 n2 pairs
+  pub bytes : b ≡ frontBytes n1 n2 pairs

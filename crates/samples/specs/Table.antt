@@ -5,7 +5,7 @@ use mathlib.Core.List.{List, [], _∷_}
 use Prim.Native.Nat.{ℕ}
 use Rattle.answer.specs.Outcome.{success, refused}
 use Rattle.record.specs.Record.{isRecord, recordHolds}
-use Rattle.compose.specs.Compose.{seriesAnswer, seriesLeft, parallelAnswer, parallelLeft}
+use Rattle.compose.specs.Compose.{seriesAnswer, seriesOut, parallelAnswer, parallelOut}
 
 -- the ring's record, the record that R3 and R4 join it with, and an empty front
 abbrev pub ring : List ℕ
@@ -28,18 +28,18 @@ pub record Table : Type 0 where
   pub r2-fails : recordHolds ring 2 1 ≡ false
   -- R3 row: pairs (2, 2), (1, 3); the three bytes behind them stay
   pub r3-answer : seriesAnswer ring other 10 ≡ success (7 ∷ [])
-  pub r3-left : seriesLeft ring other ten ≡ 2 ∷ 2 ∷ 2 ∷ 2 ∷ 2 ∷ 1 ∷ 3 ∷ 9 ∷ 9 ∷ 9 ∷ []
+  pub r3-out : seriesOut ring other ten ≡ 2 ∷ 2 ∷ 2 ∷ 2 ∷ 2 ∷ 1 ∷ 3 ∷ 9 ∷ 9 ∷ 9 ∷ []
   -- R4 side: (3, 1), (2, 3)
   pub r4-answer : parallelAnswer ring other 10 ≡ success (7 ∷ [])
-  pub r4-left : parallelLeft ring other ten ≡ 2 ∷ 2 ∷ 2 ∷ 3 ∷ 1 ∷ 2 ∷ 3 ∷ 9 ∷ 9 ∷ 9 ∷ []
+  pub r4-out : parallelOut ring other ten ≡ 2 ∷ 2 ∷ 2 ∷ 3 ∷ 1 ∷ 2 ∷ 3 ∷ 9 ∷ 9 ∷ 9 ∷ []
   -- R5 row with an empty front: empty; side: R2
-  pub r5-row : seriesLeft ring empty ten ≡ 2 ∷ 2 ∷ 0 ∷ 9 ∷ 9 ∷ 9 ∷ 9 ∷ 9 ∷ 9 ∷ 9 ∷ []
-  pub r5-side : parallelLeft ring empty ten ≡ 2 ∷ 2 ∷ 3 ∷ 3 ∷ 1 ∷ 2 ∷ 2 ∷ 1 ∷ 3 ∷ 9 ∷ []
+  pub r5-row : seriesOut ring empty ten ≡ 2 ∷ 2 ∷ 0 ∷ 9 ∷ 9 ∷ 9 ∷ 9 ∷ 9 ∷ 9 ∷ 9 ∷ []
+  pub r5-side : parallelOut ring empty ten ≡ 2 ∷ 2 ∷ 3 ∷ 3 ∷ 1 ∷ 2 ∷ 2 ∷ 1 ∷ 3 ∷ 9 ∷ []
   -- the numbers: 12 before 13, 13 before 15, 15 last; p1 may be n1 + 1 and no more; no spare byte
   pub n12 : seriesAnswer (1 ∷ 1 ∷ 0 ∷ 0 ∷ []) ring 0 ≡ refused 12
   pub n13 : seriesAnswer (1 ∷ 1 ∷ 0 ∷ []) ring 0 ≡ refused 13
   pub n15 : seriesAnswer ring other 6 ≡ refused 15
-  pub n15-stays : seriesLeft ring other (9 ∷ 9 ∷ 9 ∷ 9 ∷ 9 ∷ 9 ∷ []) ≡ 9 ∷ 9 ∷ 9 ∷ 9 ∷ 9 ∷ 9 ∷ []
+  pub n15-stays : seriesOut ring other (9 ∷ 9 ∷ 9 ∷ 9 ∷ 9 ∷ 9 ∷ []) ≡ 9 ∷ 9 ∷ 9 ∷ 9 ∷ 9 ∷ 9 ∷ []
   pub top : isRecord (1 ∷ 2 ∷ 1 ∷ 2 ∷ 3 ∷ []) ≡ true
   pub above : isRecord (1 ∷ 2 ∷ 1 ∷ 3 ∷ 3 ∷ []) ≡ false
   pub zero : isRecord (1 ∷ 2 ∷ 1 ∷ 0 ∷ 3 ∷ []) ≡ false
@@ -53,9 +53,9 @@ table =
       r2-holds = refl;
       r2-fails = refl;
       r3-answer = refl;
-      r3-left = refl;
+      r3-out = refl;
       r4-answer = refl;
-      r4-left = refl;
+      r4-out = refl;
       r5-row = refl;
       r5-side = refl;
       n12 = refl;

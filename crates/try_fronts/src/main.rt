@@ -51,18 +51,13 @@ fn in_room(expected: u64, room: usize) -> u64 {
     expected
 }
 
-// One call of series (kind 0) or parallel (kind 1), held to the plain check.
-fn one(seed: u64, kind: u8) -> u64 {
-    let mut left = [0u8; 160];
-    let mut right = [0u8; 160];
-    let l = cases::make(seed, &mut left);
-    let r = cases::partner(seed, &left, &mut right);
-    let room = cases::room(seed);
+// One call of series (kind 0) or parallel (kind 1), held to the plain check: its answer, or 0.
+fn held(kind: u8, left: &[u8], right: &[u8], room: usize) -> u64 {
     let untouched = [165u8; 160];
     let mut out = [165u8; 160];
     let mut want = [165u8; 160];
-    let whole = plain::join(kind, &left[0..l], &right[0..r], &mut want);
-    let got = call(kind, &left[0..l], &right[0..r], &mut out, room);
+    let whole = plain::join(kind, left, right, &mut want);
+    let got = call(kind, left, right, &mut out, room);
     if got != in_room(whole, room) {
         return 0;
     }
@@ -71,6 +66,15 @@ fn one(seed: u64, kind: u8) -> u64 {
         return if_so(plain::equal(&out, &untouched), got);
     }
     if_so(plain::equal(&out, &want), got)
+}
+
+// The case of a seed.
+fn one(seed: u64, kind: u8) -> u64 {
+    let mut left = [0u8; 160];
+    let mut right = [0u8; 160];
+    let l = cases::make(seed, &mut left);
+    let r = cases::partner(seed, &left, &mut right);
+    held(kind, &left[0..l], &right[0..r], cases::room(seed))
 }
 
 fn if_so(so: bool, n: u64) -> u64 {

@@ -1,8 +1,7 @@
+-- `answer::number` gives each refusal its number, case by case.
 use borrow.Author.Needs.{needs}
 use Rattle.answer.proofs.number.Statement.{statement}
 use Rattle.answer.proofs.number.Tie as tie
-use Rattle.answer.proofs.number.Reads as reads
-use Rattle.answer.proofs.number.Lts as lts
 
 enum-told : tie.Need-enum-told
 enum-told c = search needs

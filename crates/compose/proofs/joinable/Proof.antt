@@ -1,19 +1,13 @@
+-- `compose::joinable` tests in the order of the definition.
 use mathlib.Core.Path.{_≡_, sym, ap₂, _∙_}
 use mathlib.Core.Bool.{not, _&&_}
+use Prim.Native.Nat.{_-_}
+use borrow.Author.Needs.{needs}
 use lib.Dec.{eqb}
 use Rattle.record.specs.Record.{isRecord}
 use Rattle.compose.specs.Compose.{sameSizes}
-use Prim.Native.Nat.{ℕ, suc, _+_, _-_, _*_, _/_, _≤_, _<_}
-use native.Mathlib.Omega.{arith}
-use lib.ListN.{length, getD, set, length-set}
-use borrow.Author.Needs.{needs}
 use Rattle.compose.proofs.joinable.Statement.{statement}
 use Rattle.compose.proofs.joinable.Tie as tie
-use Rattle.compose.proofs.joinable.Reads as reads
-use Rattle.compose.proofs.joinable.Lts as lts
-use Rattle.record.proofs.is_record.Reads as is-record-reads
-use Rattle.record.proofs.size1.Reads as size1-reads
-use Rattle.record.proofs.size2.Reads as size2-reads
 
 -- the two tests of the code are those of the definition
 records : (c : tie.After-is-record2) → let s = c .before .before .before .before in not (isRecord (s .args .left .now) && isRecord (s .args .right .now)) ≡ not (c .before .is-record .result && c .is-record2 .result)

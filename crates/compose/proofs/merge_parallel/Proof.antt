@@ -1,25 +1,16 @@
+-- `compose::merge_parallel`: the buffer has collected all pairs but those that are left (`Merging either max`).
 use mathlib.Core.Path.{_≡_, sym, _∙_}
+use Prim.Native.Nat.{max, _+_, _-_, _≤_}
+use native.Mathlib.Omega.{arith}
 use borrow.Author.Tests.{leb-true, leb-false}
-use Prim.Native.Nat.{max}
+use borrow.Author.Needs.{needs}
+use lib.ListN.{length}
 use Rattle.record.specs.Record.{size1, size2, listed}
 use Rattle.record.proofs.Bytes.{pair-at, listed-length}
 use Rattle.record.proofs.Records.{record-is, record-few}
 use Rattle.compose.proofs.Merges.{either, at, Merging, merging-none, left-puttable, right-puttable, parallel-left, parallel-right, parallel-done}
-use Prim.Native.Nat.{ℕ, suc, _+_, _-_, _*_, _/_, _≤_, _<_}
-use native.Mathlib.Omega.{arith}
-use borrow.Author.Needs.{needs}
-use lib.ListN.{length, getD, set, length-set}
 use Rattle.compose.proofs.merge_parallel.Statement.{statement}
 use Rattle.compose.proofs.merge_parallel.Tie as tie
-use Rattle.compose.proofs.merge_parallel.Reads as reads
-use Rattle.compose.proofs.merge_parallel.Lts as lts
-use Rattle.front.proofs.Pos1.at_least.Reads as at-least-reads
-use Rattle.record.proofs.count.Reads as count-reads
-use Rattle.record.proofs.empty.Reads as empty-reads
-use Rattle.record.proofs.pair_at.Reads as pair-at-reads
-use Rattle.record.proofs.put.Reads as put-reads
-use Rattle.record.proofs.size1.Reads as size1-reads
-use Rattle.record.proofs.size2.Reads as size2-reads
 
 abbrev Inv-loop : tie.InvT-loop
 Inv-loop left right joined₀ pairs i₀ j₀ joined i j =

@@ -1,28 +1,18 @@
-use native.Mathlib.Nat.{le-of-lt}
+-- `compose::merge_series`: the buffer has collected all minima but those of the pairs that are left (`Merging both min`).
 use mathlib.Core.Path.{_≡_, sym, _∙_}
 use mathlib.Core.Logic.{inl, inr}
+use Prim.Native.Nat.{min, _+_, _-_}
+use native.Mathlib.Nat.{le-of-lt}
+use native.Mathlib.Omega.{arith}
 use borrow.Author.Tests.{leb-true, leb-false}
-use Prim.Native.Nat.{min}
+use borrow.Author.Needs.{needs}
+use lib.ListN.{length}
 use Rattle.record.specs.Record.{size1, size2, listed}
 use Rattle.record.proofs.Bytes.{pair-at, listed-length}
 use Rattle.record.proofs.Records.{record-is}
 use Rattle.compose.proofs.Merges.{both, at, Merging, merging-none, series-puttable, series-left, series-right, series-done}
-use Prim.Native.Nat.{ℕ, suc, _+_, _-_, _*_, _/_, _≤_, _<_}
-use native.Mathlib.Omega.{arith}
-use borrow.Author.Needs.{needs}
-use lib.ListN.{length, getD, set, length-set}
 use Rattle.compose.proofs.merge_series.Statement.{statement}
 use Rattle.compose.proofs.merge_series.Tie as tie
-use Rattle.compose.proofs.merge_series.Reads as reads
-use Rattle.compose.proofs.merge_series.Lts as lts
-use Rattle.front.proofs.Pair.min.Reads as min-reads
-use Rattle.front.proofs.Pos2.at_least.Reads as at-least-reads
-use Rattle.record.proofs.count.Reads as count-reads
-use Rattle.record.proofs.empty.Reads as empty-reads
-use Rattle.record.proofs.pair_at.Reads as pair-at-reads
-use Rattle.record.proofs.put.Reads as put-reads
-use Rattle.record.proofs.size1.Reads as size1-reads
-use Rattle.record.proofs.size2.Reads as size2-reads
 
 abbrev Inv-loop : tie.InvT-loop
 Inv-loop left right joined₀ k m i₀ j₀ joined i j =

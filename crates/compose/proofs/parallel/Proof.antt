@@ -1,17 +1,13 @@
+-- `compose::parallel` passes on a refusal of the records, and otherwise delivers the merged record.
 use mathlib.Core.Path.{_≡_, sym, ap, _∙_}
 use mathlib.Core.List.{[], _∷_}
+use borrow.Author.Needs.{needs}
 use lib.ListN.{length}
-use Rattle.answer.specs.Outcome.{success, outcome, done, deliverAnswer, deliverLeft}
+use Rattle.answer.specs.Outcome.{success, outcome, done, deliverAnswer, deliverOut}
 use Rattle.compose.specs.Compose.{recordTests, parallelBytes}
 use Rattle.compose.proofs.Answers.{joined-refused, joined-joinable, joined-delivered}
-use borrow.Author.Needs.{needs}
 use Rattle.compose.proofs.parallel.Statement.{statement}
 use Rattle.compose.proofs.parallel.Tie as tie
-use Rattle.compose.proofs.parallel.Reads as reads
-use Rattle.compose.proofs.parallel.Lts as lts
-use Rattle.compose.proofs.joinable.Reads as joinable-reads
-use Rattle.compose.proofs.merge_parallel.Reads as merge-parallel-reads
-use Rattle.record.proofs.deliver.Reads as deliver-reads
 
 passed : (c : tie.After-enum-told) → let s = c .before .before .before .before .before .before in outcome (recordTests (s .args .left .now) (s .args .right .now)) (0 ∷ []) ≡ success (0 ∷ [])
 passed c = sym (c .before .before .joinable .ensures) ∙ ap done (c .enum-told .given .1)
@@ -46,7 +42,7 @@ returns-2 c =
     let is = c .before .before .before .before .merge-parallel .ensures in
     let d = c .before .before .deliver .ensures in
     let j = joined-delivered x y (passed (c .before .before .before .before .before)) (parallelBytes x y) out in
-    (d .0 ∙ ap (λ b. deliverAnswer b (length out)) is ∙ j .0, d .1 ∙ ap (λ b. deliverLeft b out) is ∙ j .1)
+    (d .0 ∙ ap (λ b. deliverAnswer b (length out)) is ∙ j .0, d .1 ∙ ap (λ b. deliverOut b out) is ∙ j .1)
 
 pub parallel-spec : {M : Type 1} → statement M
 parallel-spec =

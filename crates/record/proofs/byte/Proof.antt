@@ -1,10 +1,9 @@
+-- `record::byte` is 0 past the end.
 use mathlib.Core.Path.{sym}
-use lib.ListN.{List·getD-eq-default}
 use borrow.Author.Needs.{needs}
+use lib.ListN.{List·getD-eq-default}
 use Rattle.record.proofs.byte.Statement.{statement}
 use Rattle.record.proofs.byte.Tie as tie
-use Rattle.record.proofs.byte.Reads as reads
-use Rattle.record.proofs.byte.Lts as lts
 
 shared-slice-read-result : tie.Need-shared-slice-read-result
 shared-slice-read-result c = search needs

@@ -1,21 +1,15 @@
+-- `record::holds`: no pair before `at` holds, so what is left from there on decides.
+use mathlib.Core.Path.{_∙_, _≡_, refl, sym, ap}
+use Prim.Native.Nat.{_+_, _-_}
+use native.Mathlib.Omega.{arith}
+use borrow.Author.Needs.{needs}
+use lib.ListN.{drop, length, getD}
 use Rattle.front.specs.Pair.{pairOf, holdsAt}
-use mathlib.Core.Bool.{_||_}
-use mathlib.Core.Path.{_∙_}
 use Rattle.front.specs.Front.{holds}
 use Rattle.record.specs.Record.{listed, paired}
 use Rattle.record.proofs.Scans.{holds-next, holds-end}
-use lib.ListN.{drop}
-use mathlib.Core.Path.{_≡_, refl, sym, ap, _∙_}
-use Prim.Native.Nat.{ℕ, suc, _+_, _-_, _*_, _/_, _≤_, _<_}
-use native.Mathlib.Omega.{arith}
-use borrow.Author.Needs.{needs}
-use lib.ListN.{length, getD, set, length-set}
 use Rattle.record.proofs.holds.Statement.{statement}
 use Rattle.record.proofs.holds.Tie as tie
-use Rattle.record.proofs.holds.Reads as reads
-use Rattle.record.proofs.holds.Lts as lts
-use Rattle.front.proofs.Pair.holds.Reads as holds-reads
-use Rattle.front.proofs.Pair.new.Reads as new-reads
 
 abbrev Inv-loop : tie.InvT-loop
 Inv-loop bytes a b at₀ at = holds (listed bytes) a b ≡ holds (paired (drop at bytes)) a b

@@ -1,16 +1,11 @@
-use mathlib.Core.Path.{ap}
-use lib.ListN.{getD}
+-- `record::pair_at` reads the two bytes of a pair.
+use mathlib.Core.Path.{ap, ap₂, _∙_}
 use native.Mathlib.Omega.{arith}
-use mathlib.Core.Path.{ap₂, _∙_}
-use Rattle.front.specs.Pair.{pairOf}
 use borrow.Author.Needs.{needs}
+use lib.ListN.{getD}
+use Rattle.front.specs.Pair.{pairOf}
 use Rattle.record.proofs.pair_at.Statement.{statement}
 use Rattle.record.proofs.pair_at.Tie as tie
-use Rattle.record.proofs.pair_at.Reads as reads
-use Rattle.record.proofs.pair_at.Lts as lts
-use Rattle.front.proofs.Pair.new.Reads as new-reads
-use Rattle.record.proofs.byte.Reads as byte-reads
-use Rattle.record.proofs.wide.Reads as wide-reads
 
 wide-requires : tie.Need-wide-requires
 wide-requires c κs = search needs

@@ -1,10 +1,7 @@
+-- `Pair::covers` compares the two positions of each class.
 use borrow.Author.Needs.{needs}
 use Rattle.front.proofs.Pair.covers.Statement.{statement}
 use Rattle.front.proofs.Pair.covers.Tie as tie
-use Rattle.front.proofs.Pair.covers.Reads as reads
-use Rattle.front.proofs.Pair.covers.Lts as lts
-use Rattle.front.proofs.Pos1.at_least.Reads as Pos1-at-least-reads
-use Rattle.front.proofs.Pos2.at_least.Reads as Pos2-at-least-reads
 
 at-least-requires : tie.Need-at-least-requires
 at-least-requires c κs = search needs

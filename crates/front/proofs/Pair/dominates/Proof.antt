@@ -1,10 +1,7 @@
+-- `Pair::dominates` is covering and not the same.
 use borrow.Author.Needs.{needs}
 use Rattle.front.proofs.Pair.dominates.Statement.{statement}
 use Rattle.front.proofs.Pair.dominates.Tie as tie
-use Rattle.front.proofs.Pair.dominates.Reads as reads
-use Rattle.front.proofs.Pair.dominates.Lts as lts
-use Rattle.front.proofs.Pair.covers.Reads as covers-reads
-use Rattle.front.proofs.Pair.same.Reads as same-reads
 
 covers-requires : tie.Need-covers-requires
 covers-requires c κs = search needs

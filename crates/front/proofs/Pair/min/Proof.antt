@@ -1,11 +1,8 @@
-use Rattle.front.proofs.Pairs.{pair-eq}
+-- `Pair::min` takes the smaller position of each class.
 use borrow.Author.Needs.{needs}
+use Rattle.front.proofs.Pairs.{pair-eq}
 use Rattle.front.proofs.Pair.min.Statement.{statement}
 use Rattle.front.proofs.Pair.min.Tie as tie
-use Rattle.front.proofs.Pair.min.Reads as reads
-use Rattle.front.proofs.Pair.min.Lts as lts
-use Rattle.front.proofs.Pos1.min.Reads as Pos1-min-reads
-use Rattle.front.proofs.Pos2.min.Reads as Pos2-min-reads
 
 min-requires : tie.Need-min-requires
 min-requires c κs = search needs

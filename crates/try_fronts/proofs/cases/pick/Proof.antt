@@ -1,6 +1,6 @@
 -- What `pick` gives is at most n: a remainder is below its divisor.
-use native.Mathlib.Nat.{mod-lt}
 use Prim.Native.Nat.{_/_, _<_}
+use native.Mathlib.Nat.{mod-lt}
 use native.Mathlib.Omega.{arith}
 use borrow.Author.Needs.{needs}
 use Rattle.try_fronts.proofs.cases.pick.Statement.{statement}

@@ -1,22 +1,16 @@
-use mathlib.Core.Path.{_∙_}
-use borrow.Author.Tests.{not-true, not-false}
+-- `record::pairs_fit`: the pairs before i fit, so those from i on decide.
+use mathlib.Core.Path.{_∙_, _≡_, sym, ap}
 use mathlib.Core.Bool.{_&&_}
+use Prim.Native.Nat.{_+_, _-_, _≤_}
+use native.Mathlib.Omega.{arith}
+use borrow.Author.Tests.{not-true, not-false}
+use borrow.Author.Needs.{needs}
 use Rattle.laws.specs.Members.{all}
-use Rattle.record.specs.Record.{count, listed, inRange, falling}
+use Rattle.record.specs.Record.{listed, inRange, falling}
 use Rattle.record.proofs.Scans.{fitFrom, fit-first, fit-next, fit-last}
 use Rattle.record.proofs.Bytes.{pair-at, listed-length}
-use mathlib.Core.Path.{_≡_, refl, sym, ap, _∙_}
-use Prim.Native.Nat.{ℕ, suc, _+_, _-_, _*_, _/_, _≤_, _<_}
-use native.Mathlib.Omega.{arith}
-use borrow.Author.Needs.{needs}
-use lib.ListN.{length, getD, set, length-set}
-use Rattle.record.proofs.pairs_fit.Statement.{statement}
-use Rattle.record.proofs.pairs_fit.Tie as tie
-use Rattle.record.proofs.pairs_fit.Reads as reads
-use Rattle.record.proofs.pairs_fit.Lts as lts
-use Rattle.front.proofs.Pair.new.Reads as new-reads
-use Rattle.record.proofs.fits.Reads as fits-reads
-use Rattle.record.proofs.pair_at.Reads as pair-at-reads
+use Rattle.record.proofs.valid.pairs_fit.Statement.{statement}
+use Rattle.record.proofs.valid.pairs_fit.Tie as tie
 
 abbrev Inv-loop : tie.InvT-loop
 Inv-loop bytes n1 n2 k last₀ i₀ last i = (i ≤ k) × ((all (inRange n1 n2) (listed bytes) && falling (listed bytes)) ≡ fitFrom n1 n2 (listed bytes) last i)

@@ -1,16 +1,13 @@
-use native.Mathlib.Omega.{arith}
+-- `record::is_record` refuses by each clause in turn; then the pairs decide.
 use mathlib.Core.Path.{ap₂, _∙_}
 use mathlib.Core.Bool.{_&&_}
+use native.Mathlib.Omega.{arith}
+use borrow.Author.Needs.{needs}
 use Rattle.laws.specs.Members.{all}
 use Rattle.record.specs.Record.{listed, inRange, falling}
 use Rattle.record.proofs.Records.{not-record, pairs-decide, record-few}
-use borrow.Author.Needs.{needs}
-use Rattle.record.proofs.is_record.Statement.{statement}
-use Rattle.record.proofs.is_record.Tie as tie
-use Rattle.record.proofs.is_record.Reads as reads
-use Rattle.record.proofs.is_record.Lts as lts
-use Rattle.record.proofs.pairs_fit.Reads as pairs-fit-reads
-use Rattle.record.proofs.wide.Reads as wide-reads
+use Rattle.record.proofs.valid.is_record.Statement.{statement}
+use Rattle.record.proofs.valid.is_record.Tie as tie
 
 size1-requires : tie.Need-size1-requires
 size1-requires c κs = search needs

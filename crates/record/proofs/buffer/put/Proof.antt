@@ -1,14 +1,15 @@
+-- `record::put` has four cases: the first pair, a pair that the last one covers, one that dominates it, and one behind it.
 use mathlib.Core.Path.{_≡_, sym, ap, _∙_}
-use mathlib.Core.Bool.{true, false}
 use Prim.Native.Nat.{_-_}
 use native.Mathlib.Omega.{arith}
 use borrow.Author.Needs.{needs}
 use lib.ListN.{length}
 use Rattle.front.specs.Pair.{covers, dominates}
-use Rattle.record.specs.Record.{count, recordIn, pairAt}
+use Rattle.record.specs.Record.{count, pairAt}
+use Rattle.record.specs.Buffer.{recordIn}
 use Rattle.record.proofs.Builds.{stored-long, few, room, wrote-first, wrote-nothing, wrote-over, wrote-behind}
-use Rattle.record.proofs.put.Statement.{statement}
-use Rattle.record.proofs.put.Tie as tie
+use Rattle.record.proofs.buffer.put.Statement.{statement}
+use Rattle.record.proofs.buffer.put.Tie as tie
 
 -- the two tests are of the pair that the buffer lists last
 covered : (c : tie.After-covers) → let s = c .before .before .before .before .before in covers (pairAt (s .before .args .buffer .now) (count (s .before .args .buffer .now) - 1)) (s .before .args .p) ≡ c .covers .result

@@ -1,18 +1,15 @@
-use Rattle.record.specs.Record.{count}
+-- `record::deliver` hands on the bytes that the count says, or all of them where it says more.
 use mathlib.Core.Path.{_≡_, sym, ap, _∙_}
 use Prim.Native.Nat.{_+_, _-_, _*_}
 use native.Mathlib.Omega.{arith}
+use borrow.Author.Needs.{needs}
 use lib.ListN.{length, take}
 use lib.Seq.{take-all}
-use Rattle.answer.specs.Outcome.{deliverAnswer, deliverLeft}
-use Rattle.record.specs.Record.{recordIn}
-use borrow.Author.Needs.{needs}
-use Rattle.record.proofs.deliver.Statement.{statement}
-use Rattle.record.proofs.deliver.Tie as tie
-use Rattle.record.proofs.deliver.Reads as reads
-use Rattle.record.proofs.deliver.Lts as lts
-use Rattle.answer.proofs.deliver.Reads as deliver-reads
-use Rattle.record.proofs.wide.Reads as wide-reads
+use Rattle.record.specs.Record.{count}
+use Rattle.answer.specs.Outcome.{deliverAnswer, deliverOut}
+use Rattle.record.specs.Buffer.{recordIn}
+use Rattle.record.proofs.buffer.deliver.Statement.{statement}
+use Rattle.record.proofs.buffer.deliver.Tie as tie
 
 array-read-wide : tie.Need-array-read-wide
 array-read-wide c = search needs
@@ -42,7 +39,7 @@ same-length : tie.Need-same-length
 same-length c = search needs
 
 returns : tie.Need-returns
-returns c = let s = c .before .before .before .before .before .before .before .before .before in let b = s .args .t1 in let n : 3 + 2 * c .before .before .before .before .before .before .before .wide .result - 0 ≡ 3 + 2 * count b = omega arith in let e = ap (λ k. take k b) n in (c .before .before .deliver .ensures .0 ∙ ap (λ x. deliverAnswer x (length (s .args .out .now))) e, c .before .before .deliver .ensures .1 ∙ ap (λ x. deliverLeft x (s .args .out .now)) e)
+returns c = let s = c .before .before .before .before .before .before .before .before .before in let b = s .args .t1 in let n : 3 + 2 * c .before .before .before .before .before .before .before .wide .result - 0 ≡ 3 + 2 * count b = omega arith in let e = ap (λ k. take k b) n in (c .before .before .deliver .ensures .0 ∙ ap (λ x. deliverAnswer x (length (s .args .out .now))) e, c .before .before .deliver .ensures .1 ∙ ap (λ x. deliverOut x (s .args .out .now)) e)
 
 slice-aggregate-deliver : tie.Need-slice-aggregate-deliver
 slice-aggregate-deliver c = search needs
@@ -54,7 +51,7 @@ same-length-2 : tie.Need-same-length-2
 same-length-2 c = search needs
 
 returns-2 : tie.Need-returns-2
-returns-2 c = let s = c .before .before .before .before .before .before .before .before in let b = s .args .t1 in let e : b ≡ recordIn b = sym (take-all (3 + 2 * count b) b (omega arith)) in (c .before .before .deliver2 .ensures .0 ∙ ap (λ x. deliverAnswer x (length (s .args .out .now))) e, c .before .before .deliver2 .ensures .1 ∙ ap (λ x. deliverLeft x (s .args .out .now)) e)
+returns-2 c = let s = c .before .before .before .before .before .before .before .before in let b = s .args .t1 in let e : b ≡ recordIn b = sym (take-all (3 + 2 * count b) b (omega arith)) in (c .before .before .deliver2 .ensures .0 ∙ ap (λ x. deliverAnswer x (length (s .args .out .now))) e, c .before .before .deliver2 .ensures .1 ∙ ap (λ x. deliverOut x (s .args .out .now)) e)
 
 pub deliver-spec : {M : Type 1} → statement M
 deliver-spec =

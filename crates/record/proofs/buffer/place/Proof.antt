@@ -1,9 +1,7 @@
+-- `record::place` stores the count and the two bytes of a pair.
 use borrow.Author.Needs.{needs}
-use Rattle.record.proofs.place.Statement.{statement}
-use Rattle.record.proofs.place.Tie as tie
-use Rattle.record.proofs.place.Reads as reads
-use Rattle.record.proofs.place.Lts as lts
-use Rattle.record.proofs.wide.Reads as wide-reads
+use Rattle.record.proofs.buffer.place.Statement.{statement}
+use Rattle.record.proofs.buffer.place.Tie as tie
 
 wide-requires : tie.Need-wide-requires
 wide-requires c κs = search needs

@@ -1,0 +1,21 @@
+// Positions of class 1.
+ghost use mathlib.Core.Path.{_≡_};
+ghost use Prim.Native.Nat.{min};
+ghost use lib.Dec.{leb};
+
+// A position of class 1, counted from 1; n1 + 1 stands for no node of the class.
+pub struct Pos1(pub u8);
+
+impl Pos1 {
+    pub fn min(self, other: Pos1) -> Pos1
+        ensures { λ r. ⌜ r .0 ≡ min (self .0) (other .0) ⌝ }
+    {
+        if self.0 < other.0 { self } else { other }
+    }
+
+    pub fn at_least(self, other: Pos1) -> bool
+        ensures { λ r. ⌜ r ≡ leb (other .0) (self .0) ⌝ }
+    {
+        other.0 <= self.0
+    }
+}

@@ -1,0 +1,67 @@
+// The test of number 12.
+use crate::count;
+use crate::pair_at;
+use crate::size1;
+use crate::size2;
+use crate::wide;
+use front::Pair;
+ghost use mathlib.Core.Path.{_≡_};
+ghost use mathlib.Core.Bool.{_&&_};
+ghost use Prim.Native.Nat.{_+_, _*_, _≤_};
+ghost use lib.ListN.{length};
+ghost use Rattle.laws.specs.Members.{all};
+ghost use Rattle.record.specs.Record.{count, listed, inRange, follows, falling, isRecord};
+
+// Number 12's test: whether the bytes are a front record.
+pub fn is_record(bytes: &[u8]) -> bool
+    ensures { λ r. ⌜ r ≡ isRecord (now (bytes .entry)) ⌝ }
+{
+    let n1 = size1(bytes);
+    let n2 = size2(bytes);
+    let k = count(bytes);
+    if 64 < n1 {
+        return false;
+    }
+    if 64 < n2 {
+        return false;
+    }
+    if bytes.len() != 3 + 2 * wide(k) {
+        return false;
+    }
+    if n1 + 1 < k {
+        return false;
+    }
+    if n2 + 1 < k {
+        return false;
+    }
+    pairs_fit(bytes, n1, n2)
+}
+
+// Whether every pair is in range, p1 strictly falls and p2 strictly rises.
+fn pairs_fit(bytes: &[u8], n1: u8, n2: u8) -> bool
+    requires { ⌜ (n1 ≤ 64) × (n2 ≤ 64) × (length (now bytes) ≡ 3 + 2 * count (now bytes)) ⌝ }
+    ensures { λ r. ⌜ r ≡ (all (inRange n1 n2) (listed (now (bytes .entry))) && falling (listed (now (bytes .entry)))) ⌝ }
+{
+    let k = count(bytes);
+    let mut last = Pair::new(n1 + 2, 0);
+    let mut i: u8 = 0;
+    while i < k {
+        let p = pair_at(bytes, i);
+        if !fits(n1, n2, last, p) {
+            return false;
+        }
+        last = p;
+        i += 1;
+    }
+    true
+}
+
+// Whether p is in range and may follow the pair before it.
+fn fits(n1: u8, n2: u8, last: Pair, p: Pair) -> bool
+    requires { ⌜ (n1 ≤ 64) × (n2 ≤ 64) ⌝ }
+    ensures { λ r. ⌜ r ≡ (inRange n1 n2 p && follows last p) ⌝ }
+{
+    let x = p.p1.0;
+    let y = p.p2.0;
+    ((1 <= x) & (x <= n1 + 1) & ((1 <= y) & (y <= n2 + 1))) & ((x < last.p1.0) & (last.p2.0 < y))
+}
