@@ -17,10 +17,11 @@ use Rattle.front.specs.Pair.{pairOf, minPair, holdsAt}
 use Rattle.front.specs.Front.{holds, minima, Within, Falls, RecordForm}
 use Rattle.front.proofs.Pairs.{numbers, holds-is, min-holds}
 use Rattle.front.proofs.Joins.{minima-within, minima-holds, append-within}
-use Rattle.record.specs.Record.{size1, size2, listed, frontBytes}
-use Rattle.record.specs.Buffer.{recordIn, longest, Puttable}
-use Rattle.record.proofs.Records.{record-is}
-use Rattle.record.proofs.Collects.{Where, Collects, collects-none, collects-puttable, collects-more, collects-all}
+use Rattle.record.specs.Record.{size1, size2, count, listed, pairAt, frontBytes}
+use Rattle.buffer.specs.Buffer.{recordIn, longest, Puttable}
+use Rattle.record.proofs.Bytes.{pair-at, listed-length}
+use Rattle.record.proofs.Records.{record-is, record-few}
+use Rattle.buffer.proofs.Collects.{Where, Collects, collects-none, collects-puttable, collects-more, collects-all}
 use Rattle.compose.specs.Compose.{Joinable}
 
 -- ---- what is left of two lists: where both hold, where one does
@@ -69,6 +70,20 @@ later [] f i = omega arith
 later (p ∷ []) f zero = omega arith
 later (p ∷ q ∷ l) f zero = omega (arith, f .0 q here)
 later (p ∷ l) f (suc i) = later l (f .1) i
+
+-- what the code reads of two records
+module _ {x y : List ℕ} (k : Joinable x y) where
+  pub left-at : (i : ℕ) {p : Pair} → p ≡ pairAt x i → p ≡ at (listed x) i
+  left-at i e = e ∙ pair-at x i (record-is x .0 (k .left-is) .long)
+
+  pub right-at : (j : ℕ) {q : Pair} → q ≡ pairAt y j → q ≡ at (listed y) j
+  right-at j e = e ∙ pair-at y j (record-is y .0 (k .right-is) .long)
+
+  pub counted : {m n : ℕ} → m ≡ count x → n ≡ count y → (m ≡ length (listed x)) × (n ≡ length (listed y)) × (m ≤ 65) × (n ≤ 65)
+  counted e f =
+      let u = record-is x .0 (k .left-is) in
+      let v = record-is y .0 (k .right-is) in
+      (e ∙ sym (listed-length x (u .long)), f ∙ sym (listed-length y (v .long)), omega (arith, record-few x u, u .small1), omega (arith, record-few y v, v .small1))
 
 -- what is known of the pair at place i of a list in record form
 module _ {n1 n2 : ℕ} {l : List Pair} (r : RecordForm n1 n2 l) (i : ℕ) {p : Pair} (e : p ≡ at l i) where

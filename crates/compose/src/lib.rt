@@ -9,7 +9,7 @@ ghost use mathlib.Core.Path.{_≡_};
 ghost use mathlib.Core.List.{[], _∷_};
 ghost use lib.ListN.{length};
 ghost use Rattle.answer.specs.Outcome.{written, done, outcome};
-ghost use Rattle.record.specs.Buffer.{recordIn};
+ghost use Rattle.buffer.specs.Buffer.{recordIn};
 ghost use Rattle.compose.specs.Compose.{Joinable, recordTests, seriesBytes, parallelBytes, seriesAnswer, seriesOut, parallelAnswer, parallelOut};
 
 // The series of two records: it holds where both do.
@@ -20,7 +20,7 @@ pub fn series(left: &[u8], right: &[u8], out: &mut [u8]) -> Written
     if let Done::Refused(r) = joinable(left, right) {
         return Written::Refused(r);
     }
-    record::deliver(merge_series(left, right), out)
+    buffer::deliver(merge_series(left, right), out)
 }
 
 // The parallel of two records: it holds where one of them does.
@@ -31,7 +31,7 @@ pub fn parallel(left: &[u8], right: &[u8], out: &mut [u8]) -> Written
     if let Done::Refused(r) = joinable(left, right) {
         return Written::Refused(r);
     }
-    record::deliver(merge_parallel(left, right), out)
+    buffer::deliver(merge_parallel(left, right), out)
 }
 
 // Numbers 12 and 13.
@@ -41,8 +41,9 @@ fn joinable(left: &[u8], right: &[u8]) -> Done
     if !(record::is_record(left) & record::is_record(right)) {
         return Done::Refused(Refusal::NotRecord);
     }
-    if !((record::size1(left) == record::size1(right))
-        & (record::size2(left) == record::size2(right))) {
+    let l = record::read_head(left);
+    let r = record::read_head(right);
+    if !((l.n1 == r.n1) & (l.n2 == r.n2)) {
         return Done::Refused(Refusal::SizesDiffer);
     }
     Done::Done
@@ -50,13 +51,14 @@ fn joinable(left: &[u8], right: &[u8]) -> Done
 
 // The front of all pairwise minima. Of two pairs the one with the smaller p2 is done with: its
 // minimum with any later pair of the other record is no larger.
-fn merge_series(left: &[u8], right: &[u8]) -> [u8; record::LONGEST]
+fn merge_series(left: &[u8], right: &[u8]) -> [u8; buffer::LONGEST]
     requires { ⌜ Joinable (now left) (now right) ⌝ }
     ensures { λ r. ⌜ recordIn r ≡ seriesBytes (now (left .entry)) (now (right .entry)) ⌝ }
 {
-    let mut joined = record::empty(record::size1(left), record::size2(left));
-    let k = record::count(left);
-    let m = record::count(right);
+    let l = record::read_head(left);
+    let k = l.k;
+    let m = record::read_head(right).k;
+    let mut joined = buffer::empty(l.n1, l.n2);
     let mut i: u8 = 0;
     let mut j: u8 = 0;
     while i < k {
@@ -65,7 +67,7 @@ fn merge_series(left: &[u8], right: &[u8]) -> [u8; record::LONGEST]
         }
         let p = record::pair_at(left, i);
         let q = record::pair_at(right, j);
-        record::put(&mut joined, p.min(q));
+        buffer::put(&mut joined, p.min(q));
         if q.p2.at_least(p.p2) {
             i += 1;
             continue;
@@ -76,23 +78,24 @@ fn merge_series(left: &[u8], right: &[u8]) -> [u8; record::LONGEST]
 }
 
 // The front of both lists together, taken in the order of falling p1.
-fn merge_parallel(left: &[u8], right: &[u8]) -> [u8; record::LONGEST]
+fn merge_parallel(left: &[u8], right: &[u8]) -> [u8; buffer::LONGEST]
     requires { ⌜ Joinable (now left) (now right) ⌝ }
     ensures { λ r. ⌜ recordIn r ≡ parallelBytes (now (left .entry)) (now (right .entry)) ⌝ }
 {
-    let mut joined = record::empty(record::size1(left), record::size2(left));
-    let pairs = record::count(left) + record::count(right);
+    let l = record::read_head(left);
+    let pairs = l.k + record::read_head(right).k;
+    let mut joined = buffer::empty(l.n1, l.n2);
     let mut i: u8 = 0;
     let mut j: u8 = 0;
     while i + j < pairs {
         let p = record::pair_at(left, i);
         let q = record::pair_at(right, j);
         if p.p1.at_least(q.p1) {
-            record::put(&mut joined, p);
+            buffer::put(&mut joined, p);
             i += 1;
             continue;
         }
-        record::put(&mut joined, q);
+        buffer::put(&mut joined, q);
         j += 1;
     }
     joined

@@ -1,11 +1,6 @@
 // Front records as bytes: n1, n2, k, then k pairs of bytes, p1 falling and p2 rising.
-mod buffer;
 mod valid;
 
-pub use buffer::LONGEST;
-pub use buffer::deliver;
-pub use buffer::empty;
-pub use buffer::put;
 use front::Pair;
 pub use valid::is_record;
 ghost use mathlib.Core.Path.{_≡_};
@@ -26,23 +21,22 @@ fn wide(x: u8) -> usize
     x as usize
 }
 
-// The class sizes and the number of pairs of a record; 0 past its bytes.
-pub fn size1(bytes: &[u8]) -> u8
-    ensures { λ r. ⌜ r ≡ size1 (now (bytes .entry)) ⌝ }
-{
-    byte(bytes, 0)
+// The three bytes in front of the pairs.
+pub struct Head {
+    pub n1: u8,
+    pub n2: u8,
+    pub k: u8,
 }
 
-pub fn size2(bytes: &[u8]) -> u8
-    ensures { λ r. ⌜ r ≡ size2 (now (bytes .entry)) ⌝ }
+// The head of a record; 0 for what the bytes do not have.
+pub fn read_head(bytes: &[u8]) -> Head
+    ensures { λ r. ⌜ (r .n1 ≡ size1 (now (bytes .entry))) × (r .n2 ≡ size2 (now (bytes .entry))) × (r .k ≡ count (now (bytes .entry))) ⌝ }
 {
-    byte(bytes, 1)
-}
-
-pub fn count(bytes: &[u8]) -> u8
-    ensures { λ r. ⌜ r ≡ count (now (bytes .entry)) ⌝ }
-{
-    byte(bytes, 2)
+    Head {
+        n1: byte(bytes, 0),
+        n2: byte(bytes, 1),
+        k: byte(bytes, 2),
+    }
 }
 
 // The pair at a place of a record; (0, 0), which holds nowhere, past its bytes.

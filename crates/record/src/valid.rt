@@ -1,8 +1,6 @@
 // The test of number 12.
-use crate::count;
 use crate::pair_at;
-use crate::size1;
-use crate::size2;
+use crate::read_head;
 use crate::wide;
 use front::Pair;
 ghost use mathlib.Core.Path.{_≡_};
@@ -16,9 +14,10 @@ ghost use Rattle.record.specs.Record.{count, listed, inRange, follows, f
 pub fn is_record(bytes: &[u8]) -> bool
     ensures { λ r. ⌜ r ≡ isRecord (now (bytes .entry)) ⌝ }
 {
-    let n1 = size1(bytes);
-    let n2 = size2(bytes);
-    let k = count(bytes);
+    let h = read_head(bytes);
+    let n1 = h.n1;
+    let n2 = h.n2;
+    let k = h.k;
     if 64 < n1 {
         return false;
     }
@@ -42,7 +41,7 @@ fn pairs_fit(bytes: &[u8], n1: u8, n2: u8) -> bool
     requires { ⌜ (n1 ≤ 64) × (n2 ≤ 64) × (length (now bytes) ≡ 3 + 2 * count (now bytes)) ⌝ }
     ensures { λ r. ⌜ r ≡ (all (inRange n1 n2) (listed (now (bytes .entry))) && falling (listed (now (bytes .entry)))) ⌝ }
 {
-    let k = count(bytes);
+    let k = read_head(bytes).k;
     let mut last = Pair::new(n1 + 2, 0);
     let mut i: u8 = 0;
     while i < k {

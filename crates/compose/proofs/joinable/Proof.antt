@@ -13,10 +13,11 @@ use Rattle.compose.proofs.joinable.Tie as tie
 records : (c : tie.After-is-record2) → let s = c .before .before .before .before in not (isRecord (s .args .left .now) && isRecord (s .args .right .now)) ≡ not (c .before .is-record .result && c .is-record2 .result)
 records c = ap₂ (λ a b. not (a && b)) (sym (c .before .is-record .ensures)) (sym (c .is-record2 .ensures))
 
-sizes : (c : tie.After-size22) → let s = c .before .before .before .before .before .before .before .before .before in not (sameSizes (s .args .left .now) (s .args .right .now)) ≡ not (eqb (c .before .before .before .size1 .result) (c .before .before .size12 .result) && eqb (c .before .size2 .result) (c .size22 .result))
+sizes : (c : tie.After-read-head2) → let s = c .before .before .before .before .before .before .before in let l = c .before .read-head .result in let r = c .read-head2 .result in not (sameSizes (s .args .left .now) (s .args .right .now)) ≡ not (eqb (l .n1) (r .n1) && eqb (l .n2) (r .n2))
 sizes c =
-    ap₂ (λ a b. not (a && b)) (ap₂ eqb (sym (c .before .before .before .size1 .ensures)) (sym (c .before .before .size12 .ensures)))
-    (ap₂ eqb (sym (c .before .size2 .ensures)) (sym (c .size22 .ensures)))
+    let l = c .before .read-head .ensures in
+    let r = c .read-head2 .ensures in
+    ap₂ (λ a b. not (a && b)) (ap₂ eqb (sym (l .0)) (sym (r .0))) (ap₂ eqb (sym (l .1)) (sym (r .1)))
 
 is-record-requires : tie.Need-is-record-requires
 is-record-requires c κs = search needs
@@ -27,23 +28,17 @@ is-record-requires-2 c κs = search needs
 returns : tie.Need-returns
 returns c = rw (records (c .before) ∙ c .if1 .taken)
 
-size1-requires : tie.Need-size1-requires
-size1-requires c κs = search needs
+read-head-requires : tie.Need-read-head-requires
+read-head-requires c κs = search needs
 
-size1-requires-2 : tie.Need-size1-requires-2
-size1-requires-2 c κs = search needs
-
-size2-requires : tie.Need-size2-requires
-size2-requires c κs = search needs
-
-size2-requires-2 : tie.Need-size2-requires-2
-size2-requires-2 c κs = search needs
+read-head-requires-2 : tie.Need-read-head-requires-2
+read-head-requires-2 c κs = search needs
 
 returns-2 : tie.Need-returns-2
-returns-2 c = rw (records (c .before .before .before .before .before .before) ∙ c .before .before .before .before .before .if1 .left, sizes (c .before) ∙ c .if2 .taken)
+returns-2 c = rw (records (c .before .before .before .before .before .before .before .before) ∙ c .before .before .before .before .before .before .before .if1 .left, sizes (c .before .before .before .before .before) ∙ c .if2 .taken)
 
 returns-3 : tie.Need-returns-3
-returns-3 c = rw (records (c .before .before .before .before .before .before) ∙ c .before .before .before .before .before .if1 .left, sizes (c .before) ∙ c .if2 .left)
+returns-3 c = rw (records (c .before .before .before .before .before .before .before .before) ∙ c .before .before .before .before .before .before .before .if1 .left, sizes (c .before .before .before .before .before) ∙ c .if2 .left)
 
 pub joinable-spec : {M : Type 1} → statement M
 joinable-spec =
@@ -52,9 +47,7 @@ joinable-spec =
     is-record-requires
     is-record-requires-2
     returns
-    size1-requires
-    size1-requires-2
-    size2-requires
-    size2-requires-2
+    read-head-requires
+    read-head-requires-2
     returns-2
     returns-3)

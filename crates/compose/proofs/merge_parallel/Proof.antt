@@ -6,58 +6,36 @@ use borrow.Author.Tests.{leb-true, leb-false}
 use borrow.Author.Needs.{needs}
 use lib.ListN.{length}
 use Rattle.record.specs.Record.{size1, size2, listed}
-use Rattle.record.proofs.Bytes.{pair-at, listed-length}
-use Rattle.record.proofs.Records.{record-is, record-few}
-use Rattle.compose.proofs.Merges.{either, at, Merging, merging-none, left-puttable, right-puttable, parallel-left, parallel-right, parallel-done}
+use Rattle.record.proofs.Bytes.{pair-at}
+use Rattle.compose.proofs.Merges.{either, Merging, merging-none, left-puttable, right-puttable, parallel-left, parallel-right, parallel-done, left-at, right-at, counted}
 use Rattle.compose.proofs.merge_parallel.Statement.{statement}
 use Rattle.compose.proofs.merge_parallel.Tie as tie
 
 abbrev Inv-loop : tie.InvT-loop
-Inv-loop left right joined₀ pairs i₀ j₀ joined i j =
+Inv-loop left right pairs joined₀ i₀ j₀ joined i j =
     Merging either max (size1 left) (size2 left) (listed left) (listed right) i j joined × (pairs ≡ length (listed left) + length (listed right)) × (pairs ≤ 130)
 
 abbrev μ-loop : tie.MeasureT-loop
-μ-loop left right joined₀ pairs i₀ j₀ joined i j = pairs - (i + j)
+μ-loop left right pairs joined₀ i₀ j₀ joined i j = pairs - (i + j)
 
--- the two pairs of a turn
-left-is : (c : tie.After-pair-at Inv-loop μ-loop) → c .pair-at .result ≡ at (listed (c .before .before .before .before .before .before .before .before .before .before .args .left .now)) (c .before .before .loop .i)
-left-is c = let s = c .before .before .before .before .before .before .before .before .before .before in c .pair-at .ensures ∙ pair-at (s .args .left .now) (c .before .before .loop .i) (record-is (s .args .left .now) .0 (s .pre .left-is) .long)
+read-head-requires : tie.Need-read-head-requires Inv-loop μ-loop
+read-head-requires c κs = search needs
 
-right-is : (c : tie.After-pair-at2 Inv-loop μ-loop) → c .pair-at2 .result ≡ at (listed (c .before .before .before .before .before .before .before .before .before .before .before .args .right .now)) (c .before .before .before .loop .j)
-right-is c = let s = c .before .before .before .before .before .before .before .before .before .before .before in c .pair-at2 .ensures ∙ pair-at (s .args .right .now) (c .before .before .before .loop .j) (record-is (s .args .right .now) .0 (s .pre .right-is) .long)
+read-head-requires-2 : tie.Need-read-head-requires-2 Inv-loop μ-loop
+read-head-requires-2 c κs = search needs
 
--- the numbers of pairs
-counts : (c : tie.After-count2 Inv-loop μ-loop) → let s = c .before .before .before .before .before .before .before in (c .before .count .result ≡ length (listed (s .args .left .now))) × (c .count2 .result ≡ length (listed (s .args .right .now))) × (c .before .count .result ≤ 65) × (c .count2 .result ≤ 65)
-counts c =
-    let s = c .before .before .before .before .before .before .before in
-    let x = s .args .left .now in
-    let y = s .args .right .now in
-    let u = record-is x .0 (s .pre .left-is) in
-    let v = record-is y .0 (s .pre .right-is) in
-    (c .before .count .ensures ∙ sym (listed-length x (u .long)), c .count2 .ensures ∙ sym (listed-length y (v .long)), omega (arith, c .before .count .ensures, record-few x u, u .small1), omega (arith, c .count2 .ensures, record-few y v, v .small1))
-
-size1-requires : tie.Need-size1-requires Inv-loop μ-loop
-size1-requires c κs = search needs
-
-size2-requires : tie.Need-size2-requires Inv-loop μ-loop
-size2-requires c κs = search needs
+add-pairs : tie.Need-add-pairs Inv-loop μ-loop
+add-pairs c = omega (arith, counted (c .before .before .before .before .before .before .pre) (c .before .before .before .read-head .ensures .2) (c .before .before .read-head2 .ensures .2))
 
 empty-requires : tie.Need-empty-requires Inv-loop μ-loop
 empty-requires c κs = search needs
 
-count-requires : tie.Need-count-requires Inv-loop μ-loop
-count-requires c κs = search needs
-
-count-requires-2 : tie.Need-count-requires-2 Inv-loop μ-loop
-count-requires-2 c κs = search needs
-
-add-pairs : tie.Need-add-pairs Inv-loop μ-loop
-add-pairs c = omega (arith, counts c)
-
 loop-holds : tie.Need-loop-holds Inv-loop μ-loop
 loop-holds c =
     let s = c .before .before .before .before .before .before .before in
-    (merging-none (s .pre) (c .before .before .before .before .size1 .ensures) (c .before .before .before .size2 .ensures) (c .before .before .empty .ensures), omega (arith, counts c), omega (arith, counts c))
+    let l = c .before .before .before .before .read-head .ensures in
+    let n = counted (s .pre) (l .2) (c .before .before .before .read-head2 .ensures .2) in
+    (merging-none (s .pre) (l .0) (l .1) (c .empty .ensures), omega arith, omega arith)
 
 add-loop : tie.Need-add-loop Inv-loop μ-loop
 add-loop c = search needs
@@ -72,7 +50,7 @@ at-least-requires : tie.Need-at-least-requires Inv-loop μ-loop
 at-least-requires c κs = search needs
 
 put-requires : tie.Need-put-requires Inv-loop μ-loop
-put-requires c κs = left-puttable (c .before .before .before .before .before .before .loop .inv .0) (omega arith) (left-is (c .before .before .before .before)) (right-is (c .before .before .before)) (leb-true _ _ (sym (c .before .before .at-least .ensures) ∙ c .before .if1 .taken))
+put-requires c κs = left-puttable (c .before .before .before .before .before .before .loop .inv .0) (omega arith) (left-at (c .before .before .before .before .before .before .before .before .before .before .before .before .before .before .pre) (c .before .before .before .before .before .before .loop .i) (c .before .before .before .before .pair-at .ensures)) (right-at (c .before .before .before .before .before .before .before .before .before .before .before .before .before .before .pre) (c .before .before .before .before .before .before .loop .j) (c .before .before .before .pair-at2 .ensures)) (leb-true _ _ (sym (c .before .before .at-least .ensures) ∙ c .before .if1 .taken))
 
 add-i : tie.Need-add-i Inv-loop μ-loop
 add-i c = search needs
@@ -83,10 +61,10 @@ loop-less c = search needs
 loop-again : tie.Need-loop-again Inv-loop μ-loop
 loop-again c =
     let l = c .before .before .before .before .before .before .before .loop in
-    (parallel-left (l .inv .0) (omega arith) (left-is (c .before .before .before .before .before)) (right-is (c .before .before .before .before)) (leb-true _ _ (sym (c .before .before .before .at-least .ensures) ∙ c .before .before .if1 .taken)) (c .put .ensures), l .inv .1, l .inv .2)
+    (parallel-left (l .inv .0) (omega arith) (left-at (c .before .before .before .before .before .before .before .before .before .before .before .before .before .before .before .pre) (c .before .before .before .before .before .before .before .loop .i) (c .before .before .before .before .before .pair-at .ensures)) (right-at (c .before .before .before .before .before .before .before .before .before .before .before .before .before .before .before .pre) (c .before .before .before .before .before .before .before .loop .j) (c .before .before .before .before .pair-at2 .ensures)) (leb-true _ _ (sym (c .before .before .before .at-least .ensures) ∙ c .before .before .if1 .taken)) (c .put .ensures), l .inv .1, l .inv .2)
 
 put-requires-2 : tie.Need-put-requires-2 Inv-loop μ-loop
-put-requires-2 c κs = right-puttable (c .before .before .before .before .before .before .loop .inv .0) (omega arith) (left-is (c .before .before .before .before)) (right-is (c .before .before .before)) (leb-false _ _ (sym (c .before .before .at-least .ensures) ∙ c .before .if1 .left))
+put-requires-2 c κs = right-puttable (c .before .before .before .before .before .before .loop .inv .0) (omega arith) (left-at (c .before .before .before .before .before .before .before .before .before .before .before .before .before .before .pre) (c .before .before .before .before .before .before .loop .i) (c .before .before .before .before .pair-at .ensures)) (right-at (c .before .before .before .before .before .before .before .before .before .before .before .before .before .before .pre) (c .before .before .before .before .before .before .loop .j) (c .before .before .before .pair-at2 .ensures)) (leb-false _ _ (sym (c .before .before .at-least .ensures) ∙ c .before .if1 .left))
 
 add-j : tie.Need-add-j Inv-loop μ-loop
 add-j c = search needs
@@ -97,7 +75,7 @@ loop-less-2 c = search needs
 loop-again-2 : tie.Need-loop-again-2 Inv-loop μ-loop
 loop-again-2 c =
     let l = c .before .before .before .before .before .before .before .loop in
-    (parallel-right (l .inv .0) (omega arith) (left-is (c .before .before .before .before .before)) (right-is (c .before .before .before .before)) (leb-false _ _ (sym (c .before .before .before .at-least .ensures) ∙ c .before .before .if1 .left)) (c .put2 .ensures), l .inv .1, l .inv .2)
+    (parallel-right (l .inv .0) (omega arith) (left-at (c .before .before .before .before .before .before .before .before .before .before .before .before .before .before .before .pre) (c .before .before .before .before .before .before .before .loop .i) (c .before .before .before .before .before .pair-at .ensures)) (right-at (c .before .before .before .before .before .before .before .before .before .before .before .before .before .before .before .pre) (c .before .before .before .before .before .before .before .loop .j) (c .before .before .before .before .pair-at2 .ensures)) (leb-false _ _ (sym (c .before .before .before .at-least .ensures) ∙ c .before .before .if1 .left)) (c .put2 .ensures), l .inv .1, l .inv .2)
 
 returns : tie.Need-returns Inv-loop μ-loop
 returns c = parallel-done (c .before .loop .inv .0) (omega arith)
@@ -108,12 +86,10 @@ merge-parallel-spec =
     (tie.spec
     Inv-loop
     μ-loop
-    size1-requires
-    size2-requires
-    empty-requires
-    count-requires
-    count-requires-2
+    read-head-requires
+    read-head-requires-2
     add-pairs
+    empty-requires
     loop-holds
     add-loop
     pair-at-requires

@@ -1,55 +1,40 @@
 -- `compose::merge_series`: the buffer has collected all minima but those of the pairs that are left (`Merging both min`).
 use mathlib.Core.Path.{_≡_, sym, _∙_}
 use mathlib.Core.Logic.{inl, inr}
-use Prim.Native.Nat.{min, _+_, _-_}
+use Prim.Native.Nat.{min, _+_, _-_, _≤_}
 use native.Mathlib.Nat.{le-of-lt}
 use native.Mathlib.Omega.{arith}
 use borrow.Author.Tests.{leb-true, leb-false}
 use borrow.Author.Needs.{needs}
 use lib.ListN.{length}
 use Rattle.record.specs.Record.{size1, size2, listed}
-use Rattle.record.proofs.Bytes.{pair-at, listed-length}
-use Rattle.record.proofs.Records.{record-is}
-use Rattle.compose.proofs.Merges.{both, at, Merging, merging-none, series-puttable, series-left, series-right, series-done}
+use Rattle.record.proofs.Bytes.{pair-at}
+use Rattle.compose.proofs.Merges.{both, Merging, merging-none, series-puttable, series-left, series-right, series-done, left-at, right-at, counted}
 use Rattle.compose.proofs.merge_series.Statement.{statement}
 use Rattle.compose.proofs.merge_series.Tie as tie
 
 abbrev Inv-loop : tie.InvT-loop
-Inv-loop left right joined₀ k m i₀ j₀ joined i j =
-    Merging both min (size1 left) (size2 left) (listed left) (listed right) i j joined × (k ≡ length (listed left)) × (m ≡ length (listed right))
+Inv-loop left right k m joined₀ i₀ j₀ joined i j =
+    Merging both min (size1 left) (size2 left) (listed left) (listed right) i j joined × (k ≡ length (listed left)) × (m ≡ length (listed right)) × (k ≤ 65) × (m ≤ 65)
 
 abbrev μ-loop : tie.MeasureT-loop
-μ-loop left right joined₀ k m i₀ j₀ joined i j = (k - i) + (m - j)
+μ-loop left right k m joined₀ i₀ j₀ joined i j = (k - i) + (m - j)
 
--- the two pairs of a turn
-left-is : (c : tie.After-pair-at Inv-loop μ-loop) → c .pair-at .result ≡ at (listed (c .before .before .before .before .before .before .before .before .before .before .before .args .left .now)) (c .before .before .before .loop .i)
-left-is c = let s = c .before .before .before .before .before .before .before .before .before .before .before in c .pair-at .ensures ∙ pair-at (s .args .left .now) (c .before .before .before .loop .i) (record-is (s .args .left .now) .0 (s .pre .left-is) .long)
+read-head-requires : tie.Need-read-head-requires Inv-loop μ-loop
+read-head-requires c κs = search needs
 
-right-is : (c : tie.After-pair-at2 Inv-loop μ-loop) → c .pair-at2 .result ≡ at (listed (c .before .before .before .before .before .before .before .before .before .before .before .before .args .right .now)) (c .before .before .before .before .loop .j)
-right-is c = let s = c .before .before .before .before .before .before .before .before .before .before .before .before in c .pair-at2 .ensures ∙ pair-at (s .args .right .now) (c .before .before .before .before .loop .j) (record-is (s .args .right .now) .0 (s .pre .right-is) .long)
-
-size1-requires : tie.Need-size1-requires Inv-loop μ-loop
-size1-requires c κs = search needs
-
-size2-requires : tie.Need-size2-requires Inv-loop μ-loop
-size2-requires c κs = search needs
+read-head-requires-2 : tie.Need-read-head-requires-2 Inv-loop μ-loop
+read-head-requires-2 c κs = search needs
 
 empty-requires : tie.Need-empty-requires Inv-loop μ-loop
 empty-requires c κs = search needs
 
-count-requires : tie.Need-count-requires Inv-loop μ-loop
-count-requires c κs = search needs
-
-count-requires-2 : tie.Need-count-requires-2 Inv-loop μ-loop
-count-requires-2 c κs = search needs
-
 loop-holds : tie.Need-loop-holds Inv-loop μ-loop
 loop-holds c =
-    let s = c .before .before .before .before .before .before .before in (
-      merging-none (s .pre) (c .before .before .before .before .size1 .ensures) (c .before .before .before .size2 .ensures) (c .before .before .empty .ensures),
-      c .before .count .ensures ∙ sym (listed-length (s .args .left .now) (record-is (s .args .left .now) .0 (s .pre .left-is) .long)),
-      c .count2 .ensures ∙ sym (listed-length (s .args .right .now) (record-is (s .args .right .now) .0 (s .pre .right-is) .long)),
-    )
+    let s = c .before .before .before .before .before in
+    let l = c .before .before .read-head .ensures in
+    let n = counted (s .pre) (l .2) (c .before .read-head2 .ensures .2) in
+    (merging-none (s .pre) (l .0) (l .1) (c .empty .ensures), n .0, n .1, n .2, n .3)
 
 returns : tie.Need-returns Inv-loop μ-loop
 returns c = series-done (c .before .before .loop .inv .0) (inr (omega arith))
@@ -64,7 +49,7 @@ min-requires : tie.Need-min-requires Inv-loop μ-loop
 min-requires c κs = search needs
 
 put-requires : tie.Need-put-requires Inv-loop μ-loop
-put-requires c κs = series-puttable (c .before .before .before .before .before .before .loop .inv .0) (omega arith) (omega arith) (left-is (c .before .before .before)) (right-is (c .before .before)) (c .min .ensures)
+put-requires c κs = series-puttable (c .before .before .before .before .before .before .loop .inv .0) (omega arith) (omega arith) (left-at (c .before .before .before .before .before .before .before .before .before .before .before .before .pre) (c .before .before .before .before .before .before .loop .i) (c .before .before .before .pair-at .ensures)) (right-at (c .before .before .before .before .before .before .before .before .before .before .before .before .pre) (c .before .before .before .before .before .before .loop .j) (c .before .before .pair-at2 .ensures)) (c .min .ensures)
 
 at-least-requires : tie.Need-at-least-requires Inv-loop μ-loop
 at-least-requires c κs = search needs
@@ -78,7 +63,7 @@ loop-less c = search needs
 loop-again : tie.Need-loop-again Inv-loop μ-loop
 loop-again c =
     let l = c .before .before .before .before .before .before .before .before .before .loop in
-    (series-left (l .inv .0) (omega arith) (omega arith) (left-is (c .before .before .before .before .before .before)) (right-is (c .before .before .before .before .before)) (c .before .before .before .min .ensures) (c .before .before .put .ensures) (leb-true _ _ (sym (c .before .at-least .ensures) ∙ c .if2 .taken)), l .inv .1, l .inv .2)
+    (series-left (l .inv .0) (omega arith) (omega arith) (left-at (c .before .before .before .before .before .before .before .before .before .before .before .before .before .before .before .pre) (c .before .before .before .before .before .before .before .before .before .loop .i) (c .before .before .before .before .before .before .pair-at .ensures)) (right-at (c .before .before .before .before .before .before .before .before .before .before .before .before .before .before .before .pre) (c .before .before .before .before .before .before .before .before .before .loop .j) (c .before .before .before .before .before .pair-at2 .ensures)) (c .before .before .before .min .ensures) (c .before .before .put .ensures) (leb-true _ _ (sym (c .before .at-least .ensures) ∙ c .if2 .taken)), l .inv .1, l .inv .2, l .inv .3, l .inv .4)
 
 add-j : tie.Need-add-j Inv-loop μ-loop
 add-j c = search needs
@@ -89,7 +74,7 @@ loop-less-2 c = search needs
 loop-again-2 : tie.Need-loop-again-2 Inv-loop μ-loop
 loop-again-2 c =
     let l = c .before .before .before .before .before .before .before .before .before .loop in
-    (series-right (l .inv .0) (omega arith) (omega arith) (left-is (c .before .before .before .before .before .before)) (right-is (c .before .before .before .before .before)) (c .before .before .before .min .ensures) (c .before .before .put .ensures) (le-of-lt (leb-false _ _ (sym (c .before .at-least .ensures) ∙ c .if2 .left))), l .inv .1, l .inv .2)
+    (series-right (l .inv .0) (omega arith) (omega arith) (left-at (c .before .before .before .before .before .before .before .before .before .before .before .before .before .before .before .pre) (c .before .before .before .before .before .before .before .before .before .loop .i) (c .before .before .before .before .before .before .pair-at .ensures)) (right-at (c .before .before .before .before .before .before .before .before .before .before .before .before .before .before .before .pre) (c .before .before .before .before .before .before .before .before .before .loop .j) (c .before .before .before .before .before .pair-at2 .ensures)) (c .before .before .before .min .ensures) (c .before .before .put .ensures) (le-of-lt (leb-false _ _ (sym (c .before .at-least .ensures) ∙ c .if2 .left))), l .inv .1, l .inv .2, l .inv .3, l .inv .4)
 
 returns-2 : tie.Need-returns-2 Inv-loop μ-loop
 returns-2 c = series-done (c .before .loop .inv .0) (inl (omega arith))
@@ -100,11 +85,9 @@ merge-series-spec =
     (tie.spec
     Inv-loop
     μ-loop
-    size1-requires
-    size2-requires
+    read-head-requires
+    read-head-requires-2
     empty-requires
-    count-requires
-    count-requires-2
     loop-holds
     returns
     pair-at-requires

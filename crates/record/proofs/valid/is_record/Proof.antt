@@ -9,20 +9,14 @@ use Rattle.record.proofs.Records.{not-record, pairs-decide, record-few}
 use Rattle.record.proofs.valid.is_record.Statement.{statement}
 use Rattle.record.proofs.valid.is_record.Tie as tie
 
-size1-requires : tie.Need-size1-requires
-size1-requires c κs = search needs
-
-size2-requires : tie.Need-size2-requires
-size2-requires c κs = search needs
-
-count-requires : tie.Need-count-requires
-count-requires c κs = search needs
+read-head-requires : tie.Need-read-head-requires
+read-head-requires c κs = search needs
 
 returns : tie.Need-returns
-returns c = not-record (c .before .before .before .before .before .args .bytes .now) (λ r. omega arith)
+returns c = not-record (c .before .before .before .args .bytes .now) (λ r. omega arith)
 
 returns-2 : tie.Need-returns-2
-returns-2 c = not-record (c .before .before .before .before .before .before .args .bytes .now) (λ r. omega arith)
+returns-2 c = not-record (c .before .before .before .before .args .bytes .now) (λ r. omega arith)
 
 wide-requires : tie.Need-wide-requires
 wide-requires c κs = search needs
@@ -34,33 +28,31 @@ add-if3 : tie.Need-add-if3
 add-if3 c = search needs
 
 returns-3 : tie.Need-returns-3
-returns-3 c = not-record (c .before .before .before .before .before .before .before .before .args .bytes .now) (λ r. c .if3 .taken (omega arith))
+returns-3 c = not-record (c .before .before .before .before .before .before .args .bytes .now) (λ r. c .if3 .taken (omega arith))
 
 add-if4 : tie.Need-add-if4
 add-if4 c = search needs
 
 returns-4 : tie.Need-returns-4
-returns-4 c = not-record (c .before .before .before .before .before .before .before .before .before .args .bytes .now) (λ r. omega (arith, record-few (c .before .before .before .before .before .before .before .before .before .args .bytes .now) r))
+returns-4 c = not-record (c .before .before .before .before .before .before .before .args .bytes .now) (λ r. omega (arith, record-few (c .before .before .before .before .before .before .before .args .bytes .now) r))
 
 add-if5 : tie.Need-add-if5
 add-if5 c = search needs
 
 returns-5 : tie.Need-returns-5
-returns-5 c = not-record (c .before .before .before .before .before .before .before .before .before .before .args .bytes .now) (λ r. omega (arith, record-few (c .before .before .before .before .before .before .before .before .before .before .args .bytes .now) r))
+returns-5 c = not-record (c .before .before .before .before .before .before .before .before .args .bytes .now) (λ r. omega (arith, record-few (c .before .before .before .before .before .before .before .before .args .bytes .now) r))
 
 pairs-fit-requires : tie.Need-pairs-fit-requires
 pairs-fit-requires c κs = search needs
 
 returns-6 : tie.Need-returns-6
-returns-6 c = let b = c .before .before .before .before .before .before .before .before .before .before .before .args .bytes .now in c .pairs-fit .ensures ∙ ap₂ (λ x y. all (inRange x y) (listed b) && falling (listed b)) (c .before .before .before .before .before .before .before .before .before .size1 .ensures) (c .before .before .before .before .before .before .before .before .size2 .ensures) ∙ pairs-decide b (omega arith) (omega arith) (omega arith) (omega arith)
+returns-6 c = let b = c .before .before .before .before .before .before .before .before .before .args .bytes .now in let h = c .before .before .before .before .before .before .before .read-head .ensures in c .pairs-fit .ensures ∙ ap₂ (λ x y. all (inRange x y) (listed b) && falling (listed b)) (h .0) (h .1) ∙ pairs-decide b (omega arith) (omega arith) (omega arith) (omega arith)
 
 pub is-record-spec : {M : Type 1} → statement M
 is-record-spec =
     tie.close
     (tie.spec
-    size1-requires
-    size2-requires
-    count-requires
+    read-head-requires
     returns
     returns-2
     wide-requires

@@ -32,8 +32,8 @@ turn c =
     ∙ fit-next (s .args .n1) (s .args .n2) (listed b) (l .last) (l .i) (omega (arith, listed-length b (s .pre .2))) (c .before .pair-at .result) (c .before .pair-at .ensures ∙ pair-at b (l .i) (s .pre .2))
     ∙ ap (λ t. t && fitFrom (s .args .n1) (s .args .n2) (listed b) (c .before .pair-at .result) (l .i + 1)) (sym (c .fits2 .ensures))
 
-count-requires : tie.Need-count-requires Inv-loop μ-loop
-count-requires c κs = search needs
+read-head-requires : tie.Need-read-head-requires Inv-loop μ-loop
+read-head-requires c κs = search needs
 
 add-new : tie.Need-add-new Inv-loop μ-loop
 add-new c = search needs
@@ -71,7 +71,7 @@ pairs-fit-spec =
     (tie.spec
     Inv-loop
     μ-loop
-    count-requires
+    read-head-requires
     add-new
     new-requires
     loop-holds
