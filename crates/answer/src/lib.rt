@@ -5,27 +5,45 @@ ghost use Rattle.answer.specs.Outcome.{numberOf, written, deliverAnswer,
 
 // Why a call refuses: a case for each number of document 01's two lists.
 pub enum Refusal {
-    // Numbers from the input, 1 to 15.
+    // 1 the file's length
     FileLength,
+    // 2 N, A or M out of limits
     Counts,
+    // 3 source or target no node, or the same
     Ends,
+    // 4 sections that do not fit
     Sections,
+    // 5 a class byte above 2
     NodeClass,
+    // 6 a class size above 64
     ClassSize,
+    // 7 source or target not of class 0
     EndClass,
+    // 8 an arc's end no node, or both ends equal
     Arc,
+    // 9 rounds that do not fit
     RoundsLength,
+    // 10 no such round
     RoundNumber,
+    // 11 an order that is not each node of its class once
     Order,
+    // 12 not a front record
     NotRecord,
+    // 13 two records of differing class sizes
     SizesDiffer,
+    // 14 a chance above 1,000,000, or an age above 30
     Probability,
+    // 15 an output slice too short
     OutputShort,
-    // Numbers from the state, 21 to 25.
+    // 21 a tally slice too short
     TallyShort,
+    // 22 a tally that is not sound
     TallyUnsound,
+    // 23 a tally of other sizes than the record
     TallySizes,
+    // 24 a tally of 100,000 rounds
     TallyFull,
+    // 25 no rounds where reliability is wanted
     NoRounds,
 }
 

@@ -38,12 +38,14 @@ pub fn parallel(left: &[u8], right: &[u8], out: &mut [u8]) -> Written
 fn joinable(left: &[u8], right: &[u8]) -> Done
     ensures { λ r. ⌜ done r ≡ outcome (recordTests (now (left .entry)) (now (right .entry))) (0 ∷ []) ⌝ }
 {
-    if !(record::is_record(left) & record::is_record(right)) {
-        return Done::Refused(Refusal::NotRecord);
-    }
+    let records = record::is_record(left) & record::is_record(right);
     let l = record::read_head(left);
     let r = record::read_head(right);
-    if !((l.n1 == r.n1) & (l.n2 == r.n2)) {
+    let same = (l.n1 == r.n1) & (l.n2 == r.n2);
+    if !records {
+        return Done::Refused(Refusal::NotRecord);
+    }
+    if !same {
         return Done::Refused(Refusal::SizesDiffer);
     }
     Done::Done

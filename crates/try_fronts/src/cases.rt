@@ -10,7 +10,7 @@ fn next(x: u64) -> u64
 }
 
 // A seed for each case.
-pub fn seed(i: u64) -> u64
+pub(crate) fn seed(i: u64) -> u64
     ensures { λ r. ⌜ r < 2147483648 ⌝ }
 {
     next(next(i % 1000000 * 2 + 1))
@@ -94,7 +94,7 @@ fn damaged(seed: u64, bytes: &mut [u8], length: usize) -> usize
     length
 }
 
-pub fn make(seed: u64, bytes: &mut [u8]) -> usize
+pub(crate) fn make(seed: u64, bytes: &mut [u8]) -> usize
     ensures { λ r. ⌜ r ≤ 160 ⌝ }
 {
     let length = fill(seed, size(seed, 1), size(seed, 5), bytes);
@@ -102,7 +102,7 @@ pub fn make(seed: u64, bytes: &mut [u8]) -> usize
 }
 
 // A second record, as a rule of the same sizes as the first.
-pub fn partner(seed: u64, left: &[u8], bytes: &mut [u8]) -> usize
+pub(crate) fn partner(seed: u64, left: &[u8], bytes: &mut [u8]) -> usize
     ensures { λ r. ⌜ r ≤ 160 ⌝ }
 {
     let other = seed % 2147483648 + 77777;
@@ -114,7 +114,7 @@ pub fn partner(seed: u64, left: &[u8], bytes: &mut [u8]) -> usize
 }
 
 // The length of the output slice: long enough as a rule.
-pub fn room(seed: u64) -> usize
+pub(crate) fn room(seed: u64) -> usize
     ensures { λ r. ⌜ r ≤ 160 ⌝ }
 {
     if pick(seed, 80, 4) == 0 {

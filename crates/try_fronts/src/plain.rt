@@ -8,7 +8,7 @@ fn wide(x: u8) -> u64
 }
 
 // The byte at a place, and 0 past the end.
-pub fn byte(bytes: &[u8], at: usize) -> u64
+pub(crate) fn byte(bytes: &[u8], at: usize) -> u64
     ensures { λ r. ⌜ r < 256 ⌝ }
 {
     if at < bytes.len() {
@@ -74,7 +74,7 @@ fn corner(kind: u8, left: &[u8], right: &[u8], a: u64, b: u64) -> bool
 }
 
 // Stores a byte where the slice has that place.
-pub fn poke(bytes: &mut [u8], at: usize, value: u64) {
+pub(crate) fn poke(bytes: &mut [u8], at: usize, value: u64) {
     if at < bytes.len() {
         bytes[at] = (value % 256) as u8;
     }
@@ -106,7 +106,7 @@ fn corners(kind: u8, left: &[u8], right: &[u8], a: u64, out: &mut [u8], k: usize
 }
 
 // 12, 13, or 1000 and the length of the record of all corners, which is written.
-pub fn join(kind: u8, left: &[u8], right: &[u8], out: &mut [u8]) -> u64
+pub(crate) fn join(kind: u8, left: &[u8], right: &[u8], out: &mut [u8]) -> u64
     ensures { λ r. ⌜ r < 2000 ⌝ }
 {
     if !is_record(left) | !is_record(right) {
@@ -127,7 +127,7 @@ pub fn join(kind: u8, left: &[u8], right: &[u8], out: &mut [u8]) -> u64
     1003 + 2 * k as u64
 }
 
-pub fn equal(a: &[u8], b: &[u8]) -> bool {
+pub(crate) fn equal(a: &[u8], b: &[u8]) -> bool {
     if a.len() != b.len() {
         return false;
     }
