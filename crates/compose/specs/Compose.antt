@@ -15,29 +15,33 @@ seriesBytes x y = recordBytes (size1 x) (size2 x) (series (size1 x) (size2 x) (l
 abbrev pub parallelBytes : List ℕ → List ℕ → List ℕ
 parallelBytes x y = recordBytes (size1 x) (size2 x) (parallel (size1 x) (size2 x) (listed x) (listed y))
 
+-- they agree in both class sizes
 abbrev pub sameSizes : List ℕ → List ℕ → Bool
 sameSizes x y = eqb (size1 x) (size1 y) && eqb (size2 x) (size2 y)
 
--- "row and side (12, 13, 15)": the tests of a call that would write `bytes` into a slice with that room
+-- the tests of the two records
 abbrev pub recordTests : List ℕ → List ℕ → List (ℕ × Bool)
 recordTests x y = (12, not (isRecord x && isRecord y)) ∷ (13, not (sameSizes x y)) ∷ []
 
+-- "row and side (12, 13, 15)": the tests of a call that would write `bytes` into a slice with that room
 abbrev pub joinTests : List ℕ → List ℕ → List ℕ → ℕ → List (ℕ × Bool)
 joinTests x y bytes room = recordTests x y ++ ((15, ltb room (length bytes)) ∷ [])
 
--- THE ANSWER of series and of parallel, and the output slice afterwards
+-- the answer of such a call, and its output slice afterwards
 abbrev pub joinAnswer : List ℕ → List ℕ → List ℕ → ℕ → Outcome
 joinAnswer x y bytes room = outcome (joinTests x y bytes room) (length bytes ∷ [])
 
 abbrev pub joinOut : List ℕ → List ℕ → List ℕ → List ℕ → List ℕ
 joinOut x y bytes out = filled (joinAnswer x y bytes (length out)) bytes out
 
+-- THE CALLS: series
 abbrev pub seriesAnswer : List ℕ → List ℕ → ℕ → Outcome
 seriesAnswer x y room = joinAnswer x y (seriesBytes x y) room
 
 abbrev pub seriesOut : List ℕ → List ℕ → List ℕ → List ℕ
 seriesOut x y out = joinOut x y (seriesBytes x y) out
 
+-- and parallel
 abbrev pub parallelAnswer : List ℕ → List ℕ → ℕ → Outcome
 parallelAnswer x y room = joinAnswer x y (parallelBytes x y) room
 

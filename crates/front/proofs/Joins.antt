@@ -38,6 +38,7 @@ module _ (n1 n2 : ℕ) (l m : List Pair) (w : AllWithin n1 n2 l) (v : AllWithin 
   pub parallel-holds : holds (parallel n1 n2 l m) a b ≡ (holds l a b || holds m a b)
   parallel-holds = front-holds n1 n2 (l ++ m) (append-within n1 n2 l m w v) a b ∙ any-append (λ p. holdsAt p a b) l m
 
+-- the laws, for lists within n1 and n2; short names for series, parallel and what they hold
 module _ (n1 n2 : ℕ) where
   abbrev S : List Pair → List Pair → List Pair
   S = series n1 n2

@@ -57,6 +57,7 @@ AllWithin n1 n2 l = (p : Pair) → p ∈ l → Within n1 n2 p
 abbrev pub Falls : Pair → Pair → Type 0
 Falls p q = (q .p1 .0 < p .p1 .0) × (p .p2 .0 < q .p2 .0)
 
+-- the pairs of a record: in range, and in order
 pub record RecordForm (n1 n2 : ℕ) (l : List Pair) : Type 0 where
   pub within : AllWithin n1 n2 l
   pub falls : Pairwise Falls l
@@ -65,9 +66,10 @@ pub record RecordForm (n1 n2 : ℕ) (l : List Pair) : Type 0 where
 abbrev pub SameCounts : ℕ → ℕ → List Pair → List Pair → Type 0
 SameCounts n1 n2 l m = (a b : ℕ) → a ≤ n1 → b ≤ n2 → holds l a b ≡ holds m a b
 
--- each pair of l is at most some pair of m, in both numbers
+-- p is at most q, in both numbers
 abbrev pub AtMost : Pair → Pair → Type 0
 AtMost p q = (p .p1 .0 ≤ q .p1 .0) × (p .p2 .0 ≤ q .p2 .0)
 
+-- each pair of l is at most some pair of m
 abbrev pub Under : List Pair → List Pair → Type 0
 Under l m = (p : Pair) → p ∈ l → (q : Pair) × (q ∈ m) × AtMost p q

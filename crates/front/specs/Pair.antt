@@ -16,6 +16,7 @@ minPair p q = pairOf (min (p .p1 .0) (q .p1 .0)) (min (p .p2 .0) (q .p2 .0))
 abbrev pub covers : Pair → Pair → Bool
 covers p q = leb (q .p1 .0) (p .p1 .0) && leb (q .p2 .0) (p .p2 .0)
 
+-- both numbers are equal
 abbrev pub same : Pair → Pair → Bool
 same p q = eqb (p .p1 .0) (q .p1 .0) && eqb (p .p2 .0) (q .p2 .0)
 
