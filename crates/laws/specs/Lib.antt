@@ -3,3 +3,4 @@ pub mod Members
 pub mod Pairwise
 pub mod First
 pub mod Parts
+pub mod Sums

@@ -1,1 +1,1 @@
-// General facts about tests, lists and parts of lists: see specs/. There is no code here.
+// General facts about tests, lists, parts of lists and sums: see specs/. There is no code here.

@@ -39,7 +39,13 @@ same-length : tie.Need-same-length
 same-length c = search needs
 
 returns : tie.Need-returns
-returns c = let s = c .before .before .before .before .before .before .before .before .before in let b = s .args .t1 in let n : 3 + 2 * c .before .before .before .before .before .before .before .wide .result - 0 ≡ 3 + 2 * count b = omega arith in let e = ap (λ k. take k b) n in (c .before .before .deliver .ensures .0 ∙ ap (λ x. deliverAnswer x (length (s .args .out .now))) e, c .before .before .deliver .ensures .1 ∙ ap (λ x. deliverOut x (s .args .out .now)) e)
+returns c =
+    let b = c .before .before .before .before .before .before .before .before .before .args .t1 in
+    let out = c .before .before .before .before .before .before .before .before .before .args .out .now in
+    let n : 3 + 2 * c .before .before .before .before .before .before .before .wide .result - 0 ≡ 3 + 2 * count b = omega arith in
+    let e = ap (λ k. take k b) n in
+    let d = c .before .before .deliver .ensures in
+    (d .0 ∙ ap (λ x. deliverAnswer x (length out)) e, d .1 ∙ ap (λ x. deliverOut x out) e)
 
 slice-aggregate-deliver : tie.Need-slice-aggregate-deliver
 slice-aggregate-deliver c = search needs
@@ -51,7 +57,12 @@ same-length-2 : tie.Need-same-length-2
 same-length-2 c = search needs
 
 returns-2 : tie.Need-returns-2
-returns-2 c = let s = c .before .before .before .before .before .before .before .before in let b = s .args .t1 in let e : b ≡ recordIn b = sym (take-all (3 + 2 * count b) b (omega arith)) in (c .before .before .deliver2 .ensures .0 ∙ ap (λ x. deliverAnswer x (length (s .args .out .now))) e, c .before .before .deliver2 .ensures .1 ∙ ap (λ x. deliverOut x (s .args .out .now)) e)
+returns-2 c =
+    let b = c .before .before .before .before .before .before .before .before .args .t1 in
+    let out = c .before .before .before .before .before .before .before .before .args .out .now in
+    let e : b ≡ recordIn b = sym (take-all (3 + 2 * count b) b (omega arith)) in
+    let d = c .before .before .deliver2 .ensures in
+    (d .0 ∙ ap (λ x. deliverAnswer x (length out)) e, d .1 ∙ ap (λ x. deliverOut x out) e)
 
 pub deliver-spec : {M : Type 1} → statement M
 deliver-spec =

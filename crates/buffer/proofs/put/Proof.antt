@@ -12,11 +12,15 @@ use Rattle.buffer.proofs.put.Statement.{statement}
 use Rattle.buffer.proofs.put.Tie as tie
 
 -- the two tests are of the pair that the buffer lists last
-covered : (c : tie.After-covers) → let s = c .before .before .before .before .before in covers (pairAt (s .before .args .buffer .now) (count (s .before .args .buffer .now) - 1)) (s .before .args .p) ≡ c .covers .result
+covered : (c : tie.After-covers)
+    → let a = c .before .before .before .before .before .before .args in
+    covers (pairAt (a .buffer .now) (count (a .buffer .now) - 1)) (a .p) ≡ c .covers .result
 covered c = ap (λ x. covers x (c .before .before .before .before .before .before .args .p)) (sym (c .before .pair-at .ensures)) ∙ sym (c .covers .ensures)
 
-dominated : (c : tie.After-dominates) → let s = c .before .before .before .before .before .before .before in dominates (s .before .args .p) (pairAt (s .before .args .buffer .now) (count (s .before .args .buffer .now) - 1)) ≡ c .dominates .result
-dominated c = ap (λ x. dominates (c .before .before .before .before .before .before .before .before .args .p) x) (sym (c .before .before .before .pair-at .ensures)) ∙ sym (c .dominates .ensures)
+dominated : (c : tie.After-dominates)
+    → let a = c .before .before .before .before .before .before .before .before .args in
+    dominates (a .p) (pairAt (a .buffer .now) (count (a .buffer .now) - 1)) ≡ c .dominates .result
+dominated c = ap (dominates (c .before .before .before .before .before .before .before .before .args .p)) (sym (c .before .before .before .pair-at .ensures)) ∙ sym (c .dominates .ensures)
 
 element-copy-out-k : tie.Need-element-copy-out-k
 element-copy-out-k c = search needs
@@ -26,8 +30,10 @@ place-requires c κs = search needs
 
 returns : tie.Need-returns
 returns c =
-    let s = c .before .before .before .before in
-    (ap length (c .place .ensures) ∙ stored-long (s .args .buffer .now) 0 (s .args .p) ∙ s .pre .long, ap recordIn (c .place .ensures) ∙ wrote-first (s .pre) (c .before .before .if1 .taken))
+    let s = c .before .before .before .before in (
+      ap length (c .place .ensures) ∙ stored-long (s .args .buffer .now) 0 (s .args .p) ∙ s .pre .long,
+      ap recordIn (c .place .ensures) ∙ wrote-first (s .pre) (c .before .before .if1 .taken),
+    )
 
 sub-pair-at : tie.Need-sub-pair-at
 sub-pair-at c = search needs
@@ -53,8 +59,10 @@ place-requires-2 c κs = omega (arith, few (c .before .before .before .before .b
 returns-3 : tie.Need-returns-3
 returns-3 c =
     let s = c .before .before .before .before .before .before .before .before .before .before .before in
-    let k = count (s .args .buffer .now) in
-    (ap length (c .place2 .ensures) ∙ stored-long (s .args .buffer .now) (k - 1) (s .args .p) ∙ s .pre .long, ap recordIn (c .place2 .ensures) ∙ wrote-over (s .pre) (omega arith) (dominated (c .before .before .before) ∙ c .before .before .if3 .taken))
+    let b = s .args .buffer .now in (
+      ap length (c .place2 .ensures) ∙ stored-long b (count b - 1) (s .args .p) ∙ s .pre .long,
+      ap recordIn (c .place2 .ensures) ∙ wrote-over (s .pre) (omega arith) (dominated (c .before .before .before) ∙ c .before .before .if3 .taken),
+    )
 
 place-requires-3 : tie.Need-place-requires-3
 place-requires-3 c κs = room (c .before .before .before .before .before .before .before .before .before .before .pre) (omega arith) (covered (c .before .before .before .before) ∙ c .before .before .before .if2 .left) (dominated (c .before .before) ∙ c .before .if3 .left)
@@ -62,7 +70,10 @@ place-requires-3 c κs = room (c .before .before .before .before .before .before
 returns-4 : tie.Need-returns-4
 returns-4 c =
     let s = c .before .before .before .before .before .before .before .before .before .before .before in
-    (ap length (c .place3 .ensures) ∙ stored-long (s .args .buffer .now) (count (s .args .buffer .now)) (s .args .p) ∙ s .pre .long, ap recordIn (c .place3 .ensures) ∙ wrote-behind (s .pre) (omega arith) (covered (c .before .before .before .before .before) ∙ c .before .before .before .before .if2 .left) (dominated (c .before .before .before) ∙ c .before .before .if3 .left))
+    let b = s .args .buffer .now in (
+      ap length (c .place3 .ensures) ∙ stored-long b (count b) (s .args .p) ∙ s .pre .long,
+      ap recordIn (c .place3 .ensures) ∙ wrote-behind (s .pre) (omega arith) (covered (c .before .before .before .before .before) ∙ c .before .before .before .before .if2 .left) (dominated (c .before .before .before) ∙ c .before .before .if3 .left),
+    )
 
 pub put-spec : {M : Type 1} → statement M
 put-spec =

@@ -50,7 +50,10 @@ at-least-requires : tie.Need-at-least-requires Inv-loop μ-loop
 at-least-requires c κs = search needs
 
 put-requires : tie.Need-put-requires Inv-loop μ-loop
-put-requires c κs = left-puttable (c .before .before .before .before .before .before .loop .inv .0) (omega arith) (left-at (c .before .before .before .before .before .before .before .before .before .before .before .before .before .before .pre) (c .before .before .before .before .before .before .loop .i) (c .before .before .before .before .pair-at .ensures)) (right-at (c .before .before .before .before .before .before .before .before .before .before .before .before .before .before .pre) (c .before .before .before .before .before .before .loop .j) (c .before .before .before .pair-at2 .ensures)) (leb-true _ _ (sym (c .before .before .at-least .ensures) ∙ c .before .if1 .taken))
+put-requires c κs =
+    let s = c .before .before .before .before .before .before .before .before .before .before .before .before .before .before in
+    let l = c .before .before .before .before .before .before .loop in
+    left-puttable (l .inv .0) (omega arith) (left-at (s .pre) (l .i) (c .before .before .before .before .pair-at .ensures)) (right-at (s .pre) (l .j) (c .before .before .before .pair-at2 .ensures)) (leb-true _ _ (sym (c .before .before .at-least .ensures) ∙ c .before .if1 .taken))
 
 add-i : tie.Need-add-i Inv-loop μ-loop
 add-i c = search needs
@@ -60,11 +63,17 @@ loop-less c = search needs
 
 loop-again : tie.Need-loop-again Inv-loop μ-loop
 loop-again c =
+    let s = c .before .before .before .before .before .before .before .before .before .before .before .before .before .before .before in
     let l = c .before .before .before .before .before .before .before .loop in
-    (parallel-left (l .inv .0) (omega arith) (left-at (c .before .before .before .before .before .before .before .before .before .before .before .before .before .before .before .pre) (c .before .before .before .before .before .before .before .loop .i) (c .before .before .before .before .before .pair-at .ensures)) (right-at (c .before .before .before .before .before .before .before .before .before .before .before .before .before .before .before .pre) (c .before .before .before .before .before .before .before .loop .j) (c .before .before .before .before .pair-at2 .ensures)) (leb-true _ _ (sym (c .before .before .before .at-least .ensures) ∙ c .before .before .if1 .taken)) (c .put .ensures), l .inv .1, l .inv .2)
+    let p-is = left-at (s .pre) (l .i) (c .before .before .before .before .before .pair-at .ensures) in
+    let q-is = right-at (s .pre) (l .j) (c .before .before .before .before .pair-at2 .ensures) in
+    (parallel-left (l .inv .0) (omega arith) p-is q-is (leb-true _ _ (sym (c .before .before .before .at-least .ensures) ∙ c .before .before .if1 .taken)) (c .put .ensures), l .inv .1, l .inv .2)
 
 put-requires-2 : tie.Need-put-requires-2 Inv-loop μ-loop
-put-requires-2 c κs = right-puttable (c .before .before .before .before .before .before .loop .inv .0) (omega arith) (left-at (c .before .before .before .before .before .before .before .before .before .before .before .before .before .before .pre) (c .before .before .before .before .before .before .loop .i) (c .before .before .before .before .pair-at .ensures)) (right-at (c .before .before .before .before .before .before .before .before .before .before .before .before .before .before .pre) (c .before .before .before .before .before .before .loop .j) (c .before .before .before .pair-at2 .ensures)) (leb-false _ _ (sym (c .before .before .at-least .ensures) ∙ c .before .if1 .left))
+put-requires-2 c κs =
+    let s = c .before .before .before .before .before .before .before .before .before .before .before .before .before .before in
+    let l = c .before .before .before .before .before .before .loop in
+    right-puttable (l .inv .0) (omega arith) (left-at (s .pre) (l .i) (c .before .before .before .before .pair-at .ensures)) (right-at (s .pre) (l .j) (c .before .before .before .pair-at2 .ensures)) (leb-false _ _ (sym (c .before .before .at-least .ensures) ∙ c .before .if1 .left))
 
 add-j : tie.Need-add-j Inv-loop μ-loop
 add-j c = search needs
@@ -74,8 +83,11 @@ loop-less-2 c = search needs
 
 loop-again-2 : tie.Need-loop-again-2 Inv-loop μ-loop
 loop-again-2 c =
+    let s = c .before .before .before .before .before .before .before .before .before .before .before .before .before .before .before in
     let l = c .before .before .before .before .before .before .before .loop in
-    (parallel-right (l .inv .0) (omega arith) (left-at (c .before .before .before .before .before .before .before .before .before .before .before .before .before .before .before .pre) (c .before .before .before .before .before .before .before .loop .i) (c .before .before .before .before .before .pair-at .ensures)) (right-at (c .before .before .before .before .before .before .before .before .before .before .before .before .before .before .before .pre) (c .before .before .before .before .before .before .before .loop .j) (c .before .before .before .before .pair-at2 .ensures)) (leb-false _ _ (sym (c .before .before .before .at-least .ensures) ∙ c .before .before .if1 .left)) (c .put2 .ensures), l .inv .1, l .inv .2)
+    let p-is = left-at (s .pre) (l .i) (c .before .before .before .before .before .pair-at .ensures) in
+    let q-is = right-at (s .pre) (l .j) (c .before .before .before .before .pair-at2 .ensures) in
+    (parallel-right (l .inv .0) (omega arith) p-is q-is (leb-false _ _ (sym (c .before .before .before .at-least .ensures) ∙ c .before .before .if1 .left)) (c .put2 .ensures), l .inv .1, l .inv .2)
 
 returns : tie.Need-returns Inv-loop μ-loop
 returns c = parallel-done (c .before .loop .inv .0) (omega arith)

@@ -49,7 +49,10 @@ min-requires : tie.Need-min-requires Inv-loop μ-loop
 min-requires c κs = search needs
 
 put-requires : tie.Need-put-requires Inv-loop μ-loop
-put-requires c κs = series-puttable (c .before .before .before .before .before .before .loop .inv .0) (omega arith) (omega arith) (left-at (c .before .before .before .before .before .before .before .before .before .before .before .before .pre) (c .before .before .before .before .before .before .loop .i) (c .before .before .before .pair-at .ensures)) (right-at (c .before .before .before .before .before .before .before .before .before .before .before .before .pre) (c .before .before .before .before .before .before .loop .j) (c .before .before .pair-at2 .ensures)) (c .min .ensures)
+put-requires c κs =
+    let s = c .before .before .before .before .before .before .before .before .before .before .before .before in
+    let l = c .before .before .before .before .before .before .loop in
+    series-puttable (l .inv .0) (omega arith) (omega arith) (left-at (s .pre) (l .i) (c .before .before .before .pair-at .ensures)) (right-at (s .pre) (l .j) (c .before .before .pair-at2 .ensures)) (c .min .ensures)
 
 at-least-requires : tie.Need-at-least-requires Inv-loop μ-loop
 at-least-requires c κs = search needs
@@ -62,8 +65,11 @@ loop-less c = search needs
 
 loop-again : tie.Need-loop-again Inv-loop μ-loop
 loop-again c =
+    let s = c .before .before .before .before .before .before .before .before .before .before .before .before .before .before .before in
     let l = c .before .before .before .before .before .before .before .before .before .loop in
-    (series-left (l .inv .0) (omega arith) (omega arith) (left-at (c .before .before .before .before .before .before .before .before .before .before .before .before .before .before .before .pre) (c .before .before .before .before .before .before .before .before .before .loop .i) (c .before .before .before .before .before .before .pair-at .ensures)) (right-at (c .before .before .before .before .before .before .before .before .before .before .before .before .before .before .before .pre) (c .before .before .before .before .before .before .before .before .before .loop .j) (c .before .before .before .before .before .pair-at2 .ensures)) (c .before .before .before .min .ensures) (c .before .before .put .ensures) (leb-true _ _ (sym (c .before .at-least .ensures) ∙ c .if2 .taken)), l .inv .1, l .inv .2, l .inv .3, l .inv .4)
+    let p-is = left-at (s .pre) (l .i) (c .before .before .before .before .before .before .pair-at .ensures) in
+    let q-is = right-at (s .pre) (l .j) (c .before .before .before .before .before .pair-at2 .ensures) in
+    (series-left (l .inv .0) (omega arith) (omega arith) p-is q-is (c .before .before .before .min .ensures) (c .before .before .put .ensures) (leb-true _ _ (sym (c .before .at-least .ensures) ∙ c .if2 .taken)), l .inv .1, l .inv .2, l .inv .3, l .inv .4)
 
 add-j : tie.Need-add-j Inv-loop μ-loop
 add-j c = search needs
@@ -73,8 +79,11 @@ loop-less-2 c = search needs
 
 loop-again-2 : tie.Need-loop-again-2 Inv-loop μ-loop
 loop-again-2 c =
+    let s = c .before .before .before .before .before .before .before .before .before .before .before .before .before .before .before in
     let l = c .before .before .before .before .before .before .before .before .before .loop in
-    (series-right (l .inv .0) (omega arith) (omega arith) (left-at (c .before .before .before .before .before .before .before .before .before .before .before .before .before .before .before .pre) (c .before .before .before .before .before .before .before .before .before .loop .i) (c .before .before .before .before .before .before .pair-at .ensures)) (right-at (c .before .before .before .before .before .before .before .before .before .before .before .before .before .before .before .pre) (c .before .before .before .before .before .before .before .before .before .loop .j) (c .before .before .before .before .before .pair-at2 .ensures)) (c .before .before .before .min .ensures) (c .before .before .put .ensures) (le-of-lt (leb-false _ _ (sym (c .before .at-least .ensures) ∙ c .if2 .left))), l .inv .1, l .inv .2, l .inv .3, l .inv .4)
+    let p-is = left-at (s .pre) (l .i) (c .before .before .before .before .before .before .pair-at .ensures) in
+    let q-is = right-at (s .pre) (l .j) (c .before .before .before .before .before .pair-at2 .ensures) in
+    (series-right (l .inv .0) (omega arith) (omega arith) p-is q-is (c .before .before .before .min .ensures) (c .before .before .put .ensures) (le-of-lt (leb-false _ _ (sym (c .before .at-least .ensures) ∙ c .if2 .left))), l .inv .1, l .inv .2, l .inv .3, l .inv .4)
 
 returns-2 : tie.Need-returns-2 Inv-loop μ-loop
 returns-2 c = series-done (c .before .loop .inv .0) (inl (omega arith))

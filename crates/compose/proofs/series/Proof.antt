@@ -9,7 +9,8 @@ use Rattle.compose.proofs.Answers.{joined-refused, joined-joinable, joi
 use Rattle.compose.proofs.series.Statement.{statement}
 use Rattle.compose.proofs.series.Tie as tie
 
-passed : (c : tie.After-enum-told) → let s = c .before .before .before .before .before .before in outcome (recordTests (s .args .left .now) (s .args .right .now)) (0 ∷ []) ≡ success (0 ∷ [])
+-- neither 12 nor 13
+passed : (c : tie.After-enum-told) → let a = c .before .before .before .before .before .before .args in outcome (recordTests (a .left .now) (a .right .now)) (0 ∷ []) ≡ success (0 ∷ [])
 passed c = sym (c .before .before .joinable .ensures) ∙ ap done (c .enum-told .given .1)
 
 joinable-requires : tie.Need-joinable-requires
@@ -19,7 +20,11 @@ enum-known-r : tie.Need-enum-known-r
 enum-known-r c = search needs
 
 returns : tie.Need-returns
-returns c = let s = c .before .before .before .before .before .before .before in joined-refused (s .args .left .now) (s .args .right .now) _ (sym (c .before .before .before .joinable .ensures) ∙ ap done (c .before .r .given .1)) (seriesBytes (s .args .left .now) (s .args .right .now)) (s .args .out .now)
+returns c =
+    let s = c .before .before .before .before .before .before .before in
+    let x = s .args .left .now in
+    let y = s .args .right .now in
+    joined-refused x y _ (sym (c .before .before .before .joinable .ensures) ∙ ap done (c .before .r .given .1)) (seriesBytes x y) (s .args .out .now)
 
 enum-told : tie.Need-enum-told
 enum-told c = search needs

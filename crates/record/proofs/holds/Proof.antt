@@ -18,8 +18,11 @@ abbrev μ-loop : tie.MeasureT-loop
 μ-loop bytes a b at₀ at = length bytes - at
 
 -- the test of a turn is of the pair at `at`
-held : (c : tie.After-holds Inv-loop μ-loop) → let l = c .before .before .before .before .before .before in let s = c .before .before .before .before .before .before .before .before in holdsAt (pairOf (getD (s .args .bytes .now) (l .loop .at) 0) (getD (s .args .bytes .now) (l .loop .at + 1) 0)) (s .args .a) (s .args .b) ≡ c .holds .result
-held c = ap (λ x. holdsAt x (c .before .before .before .before .before .before .before .before .args .a) (c .before .before .before .before .before .before .before .before .args .b)) (sym (c .before .new .ensures)) ∙ sym (c .holds .ensures)
+held : (c : tie.After-holds Inv-loop μ-loop)
+    → let a = c .before .before .before .before .before .before .before .before .args in
+    let at = c .before .before .before .before .before .before .loop .at in
+    holdsAt (pairOf (getD (a .bytes .now) at 0) (getD (a .bytes .now) (at + 1) 0)) (a .a) (a .b) ≡ c .holds .result
+held c = let a = c .before .before .before .before .before .before .before .before .args in ap (λ x. holdsAt x (a .a) (a .b)) (sym (c .before .new .ensures)) ∙ sym (c .holds .ensures)
 
 loop-holds : tie.Need-loop-holds Inv-loop μ-loop
 loop-holds c = refl
@@ -28,7 +31,10 @@ sub-if1 : tie.Need-sub-if1 Inv-loop μ-loop
 sub-if1 c = search needs
 
 returns : tie.Need-returns Inv-loop μ-loop
-returns c = sym (c .before .before .loop .inv ∙ holds-end (c .before .before .before .before .args .bytes .now) (c .before .before .loop .at) (c .before .before .before .before .args .a) (c .before .before .before .before .args .b) (omega arith))
+returns c =
+    let a = c .before .before .before .before .args in
+    let l = c .before .before .loop in
+    sym (l .inv ∙ holds-end (a .bytes .now) (l .at) (a .a) (a .b) (omega arith))
 
 shared-slice-read-new : tie.Need-shared-slice-read-new Inv-loop μ-loop
 shared-slice-read-new c = search needs
@@ -46,7 +52,10 @@ holds-requires : tie.Need-holds-requires Inv-loop μ-loop
 holds-requires c κs = search needs
 
 returns-2 : tie.Need-returns-2 Inv-loop μ-loop
-returns-2 c = sym (c .before .before .before .before .before .before .before .loop .inv ∙ holds-next (c .before .before .before .before .before .before .before .before .before .args .bytes .now) (c .before .before .before .before .before .before .before .loop .at) (c .before .before .before .before .before .before .before .before .before .args .a) (c .before .before .before .before .before .before .before .before .before .args .b) (omega arith) ∙ rw (held (c .before) ∙ c .if2 .taken))
+returns-2 c =
+    let a = c .before .before .before .before .before .before .before .before .before .args in
+    let l = c .before .before .before .before .before .before .before .loop in
+    sym (l .inv ∙ holds-next (a .bytes .now) (l .at) (a .a) (a .b) (omega arith) ∙ rw (held (c .before) ∙ c .if2 .taken))
 
 add-at : tie.Need-add-at Inv-loop μ-loop
 add-at c = search needs
@@ -55,10 +64,16 @@ loop-less : tie.Need-loop-less Inv-loop μ-loop
 loop-less c = search needs
 
 loop-again : tie.Need-loop-again Inv-loop μ-loop
-loop-again c = c .before .before .before .before .before .before .before .loop .inv ∙ holds-next (c .before .before .before .before .before .before .before .before .before .args .bytes .now) (c .before .before .before .before .before .before .before .loop .at) (c .before .before .before .before .before .before .before .before .before .args .a) (c .before .before .before .before .before .before .before .before .before .args .b) (omega arith) ∙ rw (held (c .before) ∙ c .if2 .left)
+loop-again c =
+    let a = c .before .before .before .before .before .before .before .before .before .args in
+    let l = c .before .before .before .before .before .before .before .loop in
+    l .inv ∙ holds-next (a .bytes .now) (l .at) (a .a) (a .b) (omega arith) ∙ rw (held (c .before) ∙ c .if2 .left)
 
 returns-3 : tie.Need-returns-3 Inv-loop μ-loop
-returns-3 c = sym (c .before .loop .inv ∙ holds-end (c .before .before .before .args .bytes .now) (c .before .loop .at) (c .before .before .before .args .a) (c .before .before .before .args .b) (omega arith))
+returns-3 c =
+    let a = c .before .before .before .args in
+    let l = c .before .loop in
+    sym (l .inv ∙ holds-end (a .bytes .now) (l .at) (a .a) (a .b) (omega arith))
 
 pub holds-spec : {M : Type 1} → statement M
 holds-spec =

@@ -29,7 +29,9 @@ new-requires : tie.Need-new-requires
 new-requires c κs = search needs
 
 returns : tie.Need-returns
-returns c = c .new .ensures ∙ ap₂ pairOf (c .before .before .byte .ensures ∙ ap (λ n. getD (c .before .before .before .before .before .args .bytes .now) n 0) (omega arith)) (c .before .byte2 .ensures ∙ ap (λ n. getD (c .before .before .before .before .before .args .bytes .now) n 0) (omega arith))
+returns c =
+    let b = c .before .before .before .before .before .args .bytes .now in
+    c .new .ensures ∙ ap₂ pairOf (c .before .before .byte .ensures ∙ ap (λ n. getD b n 0) (omega arith)) (c .before .byte2 .ensures ∙ ap (λ n. getD b n 0) (omega arith))
 
 pub pair-at-spec : {M : Type 1} → statement M
 pair-at-spec =

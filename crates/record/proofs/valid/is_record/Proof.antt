@@ -46,7 +46,11 @@ pairs-fit-requires : tie.Need-pairs-fit-requires
 pairs-fit-requires c κs = search needs
 
 returns-6 : tie.Need-returns-6
-returns-6 c = let b = c .before .before .before .before .before .before .before .before .before .args .bytes .now in let h = c .before .before .before .before .before .before .before .read-head .ensures in c .pairs-fit .ensures ∙ ap₂ (λ x y. all (inRange x y) (listed b) && falling (listed b)) (h .0) (h .1) ∙ pairs-decide b (omega arith) (omega arith) (omega arith) (omega arith)
+returns-6 c =
+    let b = c .before .before .before .before .before .before .before .before .before .args .bytes .now in
+    let h = c .before .before .before .before .before .before .before .read-head .ensures in
+    c .pairs-fit .ensures ∙ ap₂ (λ x y. all (inRange x y) (listed b) && falling (listed b)) (h .0) (h .1)
+    ∙ pairs-decide b (omega arith) (omega arith) (omega arith) (omega arith)
 
 pub is-record-spec : {M : Type 1} → statement M
 is-record-spec =

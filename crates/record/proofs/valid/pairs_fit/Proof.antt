@@ -42,7 +42,10 @@ new-requires : tie.Need-new-requires Inv-loop μ-loop
 new-requires c κs = search needs
 
 loop-holds : tie.Need-loop-holds Inv-loop μ-loop
-loop-holds c = (omega arith, fit-first (c .before .before .before .args .n1) (c .before .before .before .args .n2) (listed (c .before .before .before .args .bytes .now)) ∙ ap (λ x. fitFrom (c .before .before .before .args .n1) (c .before .before .before .args .n2) (listed (c .before .before .before .args .bytes .now)) x 0) (sym (c .new .ensures)))
+loop-holds c =
+    let a = c .before .before .before .args in
+    let l = listed (a .bytes .now) in
+    (omega arith, fit-first (a .n1) (a .n2) l ∙ ap (λ x. fitFrom (a .n1) (a .n2) l x 0) (sym (c .new .ensures)))
 
 pair-at-requires : tie.Need-pair-at-requires Inv-loop μ-loop
 pair-at-requires c κs = search needs
@@ -63,7 +66,11 @@ loop-again : tie.Need-loop-again Inv-loop μ-loop
 loop-again c = (omega arith, turn (c .before) ∙ rw (not-false (c .before .fits2 .result) (c .if1 .left)))
 
 returns-2 : tie.Need-returns-2 Inv-loop μ-loop
-returns-2 c = let s = c .before .before .before .before .before in let l = c .before .loop in sym (l .inv .1 ∙ fit-last (s .args .n1) (s .args .n2) (listed (s .args .bytes .now)) (l .last) (l .i) (omega (arith, listed-length (s .args .bytes .now) (s .pre .2))))
+returns-2 c =
+    let s = c .before .before .before .before .before in
+    let b = s .args .bytes .now in
+    let l = c .before .loop in
+    sym (l .inv .1 ∙ fit-last (s .args .n1) (s .args .n2) (listed b) (l .last) (l .i) (omega (arith, listed-length b (s .pre .2))))
 
 pub pairs-fit-spec : {M : Type 1} → statement M
 pairs-fit-spec =

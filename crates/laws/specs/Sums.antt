@@ -1,0 +1,38 @@
+-- Sums over the numbers below n.
+use mathlib.Core.Path.{_≡_, refl, ap₂}
+use mathlib.Core.Logic.{⊎-elim}
+use Prim.Native.Nat.{ℕ, zero, suc, _+_, _*_, _≤_, _<_}
+use native.Mathlib.Nat.{mul-zero, mul-le-mul-left, eq-or-lt-of-le, le-of-eq}
+use native.Mathlib.Omega.{arith}
+
+-- g 0 + g 1 + .. + g (n - 1)
+abbrev pub sumTo : ℕ → (ℕ → ℕ) → ℕ
+sumTo zero g = 0
+sumTo (suc n) g = sumTo n g + g n
+
+pub sum-same : (n : ℕ) (g h : ℕ → ℕ) → ((i : ℕ) → i < n → g i ≡ h i) → sumTo n g ≡ sumTo n h
+sum-same zero g h e = refl
+sum-same (suc n) g h e = ap₂ _+_ (sum-same n g h (λ i k. e i (omega arith))) (e n (omega arith))
+
+pub sum-le : (n : ℕ) (g h : ℕ → ℕ) → ((i : ℕ) → i < n → g i ≤ h i) → sumTo n g ≤ sumTo n h
+sum-le zero g h e = omega arith
+sum-le (suc n) g h e = omega (arith, sum-le n g h (λ i k. e i (omega arith)), e n (omega arith))
+
+pub sum-add : (n : ℕ) (g h : ℕ → ℕ) → sumTo n (λ i. g i + h i) ≡ sumTo n g + sumTo n h
+sum-add zero g h = refl
+sum-add (suc n) g h = omega (arith, sum-add n g h)
+
+pub sum-times : (n c : ℕ) (g : ℕ → ℕ) → sumTo n (λ i. c * g i) ≡ c * sumTo n g
+sum-times zero c g = omega (arith, mul-zero c)
+sum-times (suc n) c g = omega (arith, sum-times n c g)
+
+-- each f i is at most m: the sum of u i × f i is at most m times the sum of u
+pub sum-bound : (n m : ℕ) (u f : ℕ → ℕ) → ((i : ℕ) → i < n → f i ≤ m) → sumTo n (λ i. u i * f i) ≤ m * sumTo n u
+sum-bound zero m u f e = omega arith
+sum-bound (suc n) m u f e = omega (arith, sum-bound n m u f (λ i k. e i (omega arith)), mul-le-mul-left (u n) (e n (omega arith)))
+
+-- a part of a sum is at most the sum
+pub sum-part : (m n : ℕ) (g : ℕ → ℕ) → m ≤ n → sumTo m g ≤ sumTo n g
+sum-part zero zero g h = omega arith
+sum-part (suc m) zero g h = omega arith
+sum-part m (suc n) g h = ⊎-elim (λ (e : m ≡ suc n). le-of-eq (rw e)) (λ (k : m < suc n). omega (arith, sum-part m n g (omega arith))) (eq-or-lt-of-le h)
