@@ -6,7 +6,7 @@ use mathlib.Core.List.{List, [], _∷_, _++_}
 use Prim.Native.Nat.{ℕ, zero, suc, _+_, _≤_, _<_, min, max}
 use native.Mathlib.Omega.{arith}
 use native.Mathlib.Numerals.{add-one}
-use lib.Dec.{eqb, eqb→eq}
+use lib.Dec.{T, eqb, eqb→eq}
 use lib.ListN.{length, getD, drop, replicate, drop-of-length-le, List·getD-eq-default}
 use lib.Seq.{drop-cons}
 use Rattle.laws.specs.Tests.{T-ext, T-and, T-or, order}
@@ -17,7 +17,7 @@ use Rattle.front.specs.Pair.{pairOf, minPair, holdsAt}
 use Rattle.front.specs.Front.{holds, minima, Within, Falls, RecordForm}
 use Rattle.front.proofs.Pairs.{numbers, holds-is, min-holds}
 use Rattle.front.proofs.Joins.{minima-within, minima-holds, append-within}
-use Rattle.record.specs.Record.{size1, size2, count, listed, pairAt, frontBytes}
+use Rattle.record.specs.Record.{size1, size2, count, listed, pairAt, frontBytes, isRecord}
 use Rattle.buffer.specs.Buffer.{recordIn, longest, Puttable}
 use Rattle.record.proofs.Bytes.{pair-at, listed-length}
 use Rattle.record.proofs.Records.{record-is, record-few}
@@ -71,19 +71,13 @@ later (p ∷ []) f zero = omega arith
 later (p ∷ q ∷ l) f zero = omega (arith, f .0 q here)
 later (p ∷ l) f (suc i) = later l (f .1) i
 
--- what the code reads of two records
-module _ {x y : List ℕ} (k : Joinable x y) where
-  pub left-at : (i : ℕ) {p : Pair} → p ≡ pairAt x i → p ≡ at (listed x) i
-  left-at i e = e ∙ pair-at x i (record-is x .0 (k .left-is) .long)
+-- what the code reads of a record
+module _ (x : List ℕ) (r : T (isRecord x)) where
+  pub pair-is : (i : ℕ) {p : Pair} → p ≡ pairAt x i → p ≡ at (listed x) i
+  pair-is i e = e ∙ pair-at x i (record-is x .0 r .long)
 
-  pub right-at : (j : ℕ) {q : Pair} → q ≡ pairAt y j → q ≡ at (listed y) j
-  right-at j e = e ∙ pair-at y j (record-is y .0 (k .right-is) .long)
-
-  pub counted : {m n : ℕ} → m ≡ count x → n ≡ count y → (m ≡ length (listed x)) × (n ≡ length (listed y)) × (m ≤ 65) × (n ≤ 65)
-  counted e f =
-      let u = record-is x .0 (k .left-is) in
-      let v = record-is y .0 (k .right-is) in
-      (e ∙ sym (listed-length x (u .long)), f ∙ sym (listed-length y (v .long)), omega (arith, record-few x u, u .small1), omega (arith, record-few y v, v .small1))
+  pub count-is : {k : ℕ} → k ≡ count x → (k ≡ length (listed x)) × (k ≤ 65)
+  count-is e = let u = record-is x .0 r in (e ∙ sym (listed-length x (u .long)), omega (arith, record-few x u, u .small1))
 
 -- what is known of the pair at place i of a list in record form
 module _ {n1 n2 : ℕ} {l : List Pair} (r : RecordForm n1 n2 l) (i : ℕ) {p : Pair} (e : p ≡ at l i) where

@@ -7,7 +7,7 @@ use borrow.Author.Needs.{needs}
 use lib.ListN.{length}
 use Rattle.record.specs.Record.{size1, size2, listed}
 use Rattle.record.proofs.Bytes.{pair-at}
-use Rattle.compose.proofs.Merges.{either, Merging, merging-none, left-puttable, right-puttable, parallel-left, parallel-right, parallel-done, left-at, right-at, counted}
+use Rattle.compose.proofs.Merges.{either, Merging, merging-none, left-puttable, right-puttable, parallel-left, parallel-right, parallel-done, pair-is, count-is}
 use Rattle.compose.proofs.merge_parallel.Statement.{statement}
 use Rattle.compose.proofs.merge_parallel.Tie as tie
 
@@ -25,7 +25,11 @@ read-head-requires-2 : tie.Need-read-head-requires-2 Inv-loop μ-loop
 read-head-requires-2 c κs = search needs
 
 add-pairs : tie.Need-add-pairs Inv-loop μ-loop
-add-pairs c = omega (arith, counted (c .before .before .before .before .before .before .pre) (c .before .before .before .read-head .ensures .2) (c .before .before .read-head2 .ensures .2))
+add-pairs c =
+    let s = c .before .before .before .before .before .before in
+    let k = count-is (s .args .left .now) (s .pre .left-is) (c .before .before .before .read-head .ensures .2) in
+    let m = count-is (s .args .right .now) (s .pre .right-is) (c .before .before .read-head2 .ensures .2) in
+    omega arith
 
 empty-requires : tie.Need-empty-requires Inv-loop μ-loop
 empty-requires c κs = search needs
@@ -34,7 +38,8 @@ loop-holds : tie.Need-loop-holds Inv-loop μ-loop
 loop-holds c =
     let s = c .before .before .before .before .before .before .before in
     let l = c .before .before .before .before .read-head .ensures in
-    let n = counted (s .pre) (l .2) (c .before .before .before .read-head2 .ensures .2) in
+    let k = count-is (s .args .left .now) (s .pre .left-is) (l .2) in
+    let m = count-is (s .args .right .now) (s .pre .right-is) (c .before .before .before .read-head2 .ensures .2) in
     (merging-none (s .pre) (l .0) (l .1) (c .empty .ensures), omega arith, omega arith)
 
 add-loop : tie.Need-add-loop Inv-loop μ-loop
@@ -53,7 +58,7 @@ put-requires : tie.Need-put-requires Inv-loop μ-loop
 put-requires c κs =
     let s = c .before .before .before .before .before .before .before .before .before .before .before .before .before .before in
     let l = c .before .before .before .before .before .before .loop in
-    left-puttable (l .inv .0) (omega arith) (left-at (s .pre) (l .i) (c .before .before .before .before .pair-at .ensures)) (right-at (s .pre) (l .j) (c .before .before .before .pair-at2 .ensures)) (leb-true _ _ (sym (c .before .before .at-least .ensures) ∙ c .before .if1 .taken))
+    left-puttable (l .inv .0) (omega arith) (pair-is (s .args .left .now) (s .pre .left-is) (l .i) (c .before .before .before .before .pair-at .ensures)) (pair-is (s .args .right .now) (s .pre .right-is) (l .j) (c .before .before .before .pair-at2 .ensures)) (leb-true _ _ (sym (c .before .before .at-least .ensures) ∙ c .before .if1 .taken))
 
 add-i : tie.Need-add-i Inv-loop μ-loop
 add-i c = search needs
@@ -65,15 +70,15 @@ loop-again : tie.Need-loop-again Inv-loop μ-loop
 loop-again c =
     let s = c .before .before .before .before .before .before .before .before .before .before .before .before .before .before .before in
     let l = c .before .before .before .before .before .before .before .loop in
-    let p-is = left-at (s .pre) (l .i) (c .before .before .before .before .before .pair-at .ensures) in
-    let q-is = right-at (s .pre) (l .j) (c .before .before .before .before .pair-at2 .ensures) in
+    let p-is = pair-is (s .args .left .now) (s .pre .left-is) (l .i) (c .before .before .before .before .before .pair-at .ensures) in
+    let q-is = pair-is (s .args .right .now) (s .pre .right-is) (l .j) (c .before .before .before .before .pair-at2 .ensures) in
     (parallel-left (l .inv .0) (omega arith) p-is q-is (leb-true _ _ (sym (c .before .before .before .at-least .ensures) ∙ c .before .before .if1 .taken)) (c .put .ensures), l .inv .1, l .inv .2)
 
 put-requires-2 : tie.Need-put-requires-2 Inv-loop μ-loop
 put-requires-2 c κs =
     let s = c .before .before .before .before .before .before .before .before .before .before .before .before .before .before in
     let l = c .before .before .before .before .before .before .loop in
-    right-puttable (l .inv .0) (omega arith) (left-at (s .pre) (l .i) (c .before .before .before .before .pair-at .ensures)) (right-at (s .pre) (l .j) (c .before .before .before .pair-at2 .ensures)) (leb-false _ _ (sym (c .before .before .at-least .ensures) ∙ c .before .if1 .left))
+    right-puttable (l .inv .0) (omega arith) (pair-is (s .args .left .now) (s .pre .left-is) (l .i) (c .before .before .before .before .pair-at .ensures)) (pair-is (s .args .right .now) (s .pre .right-is) (l .j) (c .before .before .before .pair-at2 .ensures)) (leb-false _ _ (sym (c .before .before .at-least .ensures) ∙ c .before .if1 .left))
 
 add-j : tie.Need-add-j Inv-loop μ-loop
 add-j c = search needs
@@ -85,8 +90,8 @@ loop-again-2 : tie.Need-loop-again-2 Inv-loop μ-loop
 loop-again-2 c =
     let s = c .before .before .before .before .before .before .before .before .before .before .before .before .before .before .before in
     let l = c .before .before .before .before .before .before .before .loop in
-    let p-is = left-at (s .pre) (l .i) (c .before .before .before .before .before .pair-at .ensures) in
-    let q-is = right-at (s .pre) (l .j) (c .before .before .before .before .pair-at2 .ensures) in
+    let p-is = pair-is (s .args .left .now) (s .pre .left-is) (l .i) (c .before .before .before .before .before .pair-at .ensures) in
+    let q-is = pair-is (s .args .right .now) (s .pre .right-is) (l .j) (c .before .before .before .before .pair-at2 .ensures) in
     (parallel-right (l .inv .0) (omega arith) p-is q-is (leb-false _ _ (sym (c .before .before .before .at-least .ensures) ∙ c .before .before .if1 .left)) (c .put2 .ensures), l .inv .1, l .inv .2)
 
 returns : tie.Need-returns Inv-loop μ-loop

@@ -9,7 +9,7 @@ use borrow.Author.Needs.{needs}
 use lib.ListN.{length}
 use Rattle.record.specs.Record.{size1, size2, listed}
 use Rattle.record.proofs.Bytes.{pair-at}
-use Rattle.compose.proofs.Merges.{both, Merging, merging-none, series-puttable, series-left, series-right, series-done, left-at, right-at, counted}
+use Rattle.compose.proofs.Merges.{both, Merging, merging-none, series-puttable, series-left, series-right, series-done, pair-is, count-is}
 use Rattle.compose.proofs.merge_series.Statement.{statement}
 use Rattle.compose.proofs.merge_series.Tie as tie
 
@@ -33,8 +33,9 @@ loop-holds : tie.Need-loop-holds Inv-loop μ-loop
 loop-holds c =
     let s = c .before .before .before .before .before in
     let l = c .before .before .read-head .ensures in
-    let n = counted (s .pre) (l .2) (c .before .read-head2 .ensures .2) in
-    (merging-none (s .pre) (l .0) (l .1) (c .empty .ensures), n .0, n .1, n .2, n .3)
+    let k = count-is (s .args .left .now) (s .pre .left-is) (l .2) in
+    let m = count-is (s .args .right .now) (s .pre .right-is) (c .before .read-head2 .ensures .2) in
+    (merging-none (s .pre) (l .0) (l .1) (c .empty .ensures), k .0, m .0, k .1, m .1)
 
 returns : tie.Need-returns Inv-loop μ-loop
 returns c = series-done (c .before .before .loop .inv .0) (inr (omega arith))
@@ -52,7 +53,7 @@ put-requires : tie.Need-put-requires Inv-loop μ-loop
 put-requires c κs =
     let s = c .before .before .before .before .before .before .before .before .before .before .before .before in
     let l = c .before .before .before .before .before .before .loop in
-    series-puttable (l .inv .0) (omega arith) (omega arith) (left-at (s .pre) (l .i) (c .before .before .before .pair-at .ensures)) (right-at (s .pre) (l .j) (c .before .before .pair-at2 .ensures)) (c .min .ensures)
+    series-puttable (l .inv .0) (omega arith) (omega arith) (pair-is (s .args .left .now) (s .pre .left-is) (l .i) (c .before .before .before .pair-at .ensures)) (pair-is (s .args .right .now) (s .pre .right-is) (l .j) (c .before .before .pair-at2 .ensures)) (c .min .ensures)
 
 at-least-requires : tie.Need-at-least-requires Inv-loop μ-loop
 at-least-requires c κs = search needs
@@ -67,8 +68,8 @@ loop-again : tie.Need-loop-again Inv-loop μ-loop
 loop-again c =
     let s = c .before .before .before .before .before .before .before .before .before .before .before .before .before .before .before in
     let l = c .before .before .before .before .before .before .before .before .before .loop in
-    let p-is = left-at (s .pre) (l .i) (c .before .before .before .before .before .before .pair-at .ensures) in
-    let q-is = right-at (s .pre) (l .j) (c .before .before .before .before .before .pair-at2 .ensures) in
+    let p-is = pair-is (s .args .left .now) (s .pre .left-is) (l .i) (c .before .before .before .before .before .before .pair-at .ensures) in
+    let q-is = pair-is (s .args .right .now) (s .pre .right-is) (l .j) (c .before .before .before .before .before .pair-at2 .ensures) in
     (series-left (l .inv .0) (omega arith) (omega arith) p-is q-is (c .before .before .before .min .ensures) (c .before .before .put .ensures) (leb-true _ _ (sym (c .before .at-least .ensures) ∙ c .if2 .taken)), l .inv .1, l .inv .2, l .inv .3, l .inv .4)
 
 add-j : tie.Need-add-j Inv-loop μ-loop
@@ -81,8 +82,8 @@ loop-again-2 : tie.Need-loop-again-2 Inv-loop μ-loop
 loop-again-2 c =
     let s = c .before .before .before .before .before .before .before .before .before .before .before .before .before .before .before in
     let l = c .before .before .before .before .before .before .before .before .before .loop in
-    let p-is = left-at (s .pre) (l .i) (c .before .before .before .before .before .before .pair-at .ensures) in
-    let q-is = right-at (s .pre) (l .j) (c .before .before .before .before .before .pair-at2 .ensures) in
+    let p-is = pair-is (s .args .left .now) (s .pre .left-is) (l .i) (c .before .before .before .before .before .before .pair-at .ensures) in
+    let q-is = pair-is (s .args .right .now) (s .pre .right-is) (l .j) (c .before .before .before .before .before .pair-at2 .ensures) in
     (series-right (l .inv .0) (omega arith) (omega arith) p-is q-is (c .before .before .before .min .ensures) (c .before .before .put .ensures) (le-of-lt (leb-false _ _ (sym (c .before .at-least .ensures) ∙ c .if2 .left))), l .inv .1, l .inv .2, l .inv .3, l .inv .4)
 
 returns-2 : tie.Need-returns-2 Inv-loop μ-loop

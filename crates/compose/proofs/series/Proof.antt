@@ -2,8 +2,7 @@
 use mathlib.Core.Path.{_≡_, sym, ap, _∙_}
 use mathlib.Core.List.{[], _∷_}
 use borrow.Author.Needs.{needs}
-use lib.ListN.{length}
-use Rattle.answer.specs.Outcome.{success, outcome, done, deliverAnswer, deliverOut}
+use Rattle.answer.specs.Outcome.{success, outcome, done}
 use Rattle.compose.specs.Compose.{recordTests, seriesBytes}
 use Rattle.compose.proofs.Answers.{joined-refused, joined-joinable, joined-delivered}
 use Rattle.compose.proofs.series.Statement.{statement}
@@ -39,15 +38,7 @@ same-length : tie.Need-same-length
 same-length c = search needs
 
 returns-2 : tie.Need-returns-2
-returns-2 c =
-    let s = c .before .before .before .before .before .before .before .before .before .before .before in
-    let x = s .args .left .now in
-    let y = s .args .right .now in
-    let out = s .args .out .now in
-    let is = c .before .before .before .before .merge-series .ensures in
-    let d = c .before .before .deliver .ensures in
-    let j = joined-delivered x y (passed (c .before .before .before .before .before)) (seriesBytes x y) out in
-    (d .0 ∙ ap (λ b. deliverAnswer b (length out)) is ∙ j .0, d .1 ∙ ap (λ b. deliverOut b out) is ∙ j .1)
+returns-2 c = let a = c .before .before .before .before .before .before .before .before .before .before .before .args in joined-delivered (a .left .now) (a .right .now) (passed (c .before .before .before .before .before)) (a .out .now) (c .before .before .before .before .merge-series .ensures) (c .before .before .deliver .ensures)
 
 pub series-spec : {M : Type 1} → statement M
 series-spec =
