@@ -1,6 +1,6 @@
 -- The laws of series and parallel over records: those of lists in record form, carried to bytes.
 use mathlib.Core.Path.{_≡_, refl, sym, ap, ap₂, _∙_, subst}
-use mathlib.Core.List.{List, _++_}
+use mathlib.Core.List.{List}
 use Prim.Native.Nat.{ℕ}
 use native.Mathlib.Omega.{arith}
 use Rattle.front.specs.declared.Pair.{Pair}
@@ -11,11 +11,8 @@ use Rattle.record.proofs.Bytes.{paired-flat, record-whole}
 use Rattle.record.proofs.Records.{record-is, form-is-record, record-few}
 use Rattle.compose.specs.Compose.{seriesBytes, parallelBytes}
 use Rattle.compose.specs.Laws.{Sized, Laws}
+use Rattle.front.proofs.Joins.{union}
 use Rattle.front.proofs.Joins as joins
-
--- the pairs of which parallel takes the front
-abbrev union : List Pair → List Pair → List Pair
-union l m = l ++ m
 
 module _ {n1 n2 : ℕ} where
   form : {x : List ℕ} → Sized n1 n2 x → RecordForm n1 n2 (listed x)

@@ -1,7 +1,7 @@
 -- Series holds where both lists do and parallel where one does; the laws of the two follow from those of "and" and "or".
-use mathlib.Core.Path.{_≡_, refl, sym, ap₂, _∙_}
+use mathlib.Core.Path.{_≡_, refl, sym, ap, ap₂, _∙_}
 use mathlib.Core.Logic.{⊎-elim}
-use mathlib.Core.Bool.{_&&_, _||_, and-or-distrib-right, and-false, and-comm, or-comm, and-assoc, or-assoc, and-self, or-self, and-or-distrib-left, or-and-distrib-left}
+use mathlib.Core.Bool.{Bool, _&&_, _||_, and-or-distrib-right, and-false, and-comm, or-comm, and-assoc, or-assoc, and-self, or-self, and-or-distrib-left, or-and-distrib-left}
 use mathlib.Core.List.{List, [], _∷_, _++_, map, List·Memᴰ·append-cases, Memᴰ·of-map}
 use Prim.Native.Nat.{ℕ}
 use native.Mathlib.Omega.{arith}
@@ -38,58 +38,67 @@ module _ (n1 n2 : ℕ) (l m : List Pair) (w : AllWithin n1 n2 l) (v : AllWithin 
   pub parallel-holds : holds (parallel n1 n2 l m) a b ≡ (holds l a b || holds m a b)
   parallel-holds = front-holds n1 n2 (l ++ m) (append-within n1 n2 l m w v) a b ∙ any-append (λ p. holdsAt p a b) l m
 
--- the laws, for lists within n1 and n2; short names for series, parallel and what they hold
+-- ---- the laws
+-- the pairs of which parallel takes the front, as `minima` are those of series
+abbrev pub union : List Pair → List Pair → List Pair
+union l m = l ++ m
+
+-- the front of f's pairs holds where op says, of where the two lists do
+abbrev HoldsBy : ℕ → ℕ → (List Pair → List Pair → List Pair) → (Bool → Bool → Bool) → Type 0
+HoldsBy n1 n2 f op = (l m : List Pair) → AllWithin n1 n2 l → AllWithin n1 n2 m → (a b : ℕ) → holds (front n1 n2 (f l m)) a b ≡ op (holds l a b) (holds m a b)
+
 module _ (n1 n2 : ℕ) where
-  abbrev S : List Pair → List Pair → List Pair
-  S = series n1 n2
-
-  abbrev P : List Pair → List Pair → List Pair
-  P = parallel n1 n2
-
-  abbrev sh : (l m : List Pair) → AllWithin n1 n2 l → AllWithin n1 n2 m → (a b : ℕ) → holds (S l m) a b ≡ (holds l a b && holds m a b)
-  sh = series-holds n1 n2
-
-  abbrev ph : (l m : List Pair) → AllWithin n1 n2 l → AllWithin n1 n2 m → (a b : ℕ) → holds (P l m) a b ≡ (holds l a b || holds m a b)
-  ph = parallel-holds n1 n2
-
-  abbrev wf : (l : List Pair) → AllWithin n1 n2 (front n1 n2 l)
-  wf = front-within n1 n2
-
   -- fronts that hold at the same counts are equal
   fronts : (l m : List Pair) → ((a b : ℕ) → holds (front n1 n2 l) a b ≡ holds (front n1 n2 m) a b) → front n1 n2 l ≡ front n1 n2 m
   fronts l m h = form-same n1 n2 (front n1 n2 l) (front n1 n2 m) (front-form n1 n2 l) (front-form n1 n2 m) .1 (λ a b _ _. h a b)
 
-  module _ (l m : List Pair) (w : AllWithin n1 n2 l) (v : AllWithin n1 n2 m) where
-    pub series-comm : S l m ≡ S m l
-    series-comm = fronts (minima l m) (minima m l) (λ a b. sh l m w v a b ∙ and-comm (holds l a b) (holds m a b) ∙ sym (sh m l v w a b))
+  -- a law of op is one of the fronts
+  module _ (f : List Pair → List Pair → List Pair) (op : Bool → Bool → Bool) (fh : HoldsBy n1 n2 f op) where
+    abbrev F : List Pair → List Pair → List Pair
+    F l m = front n1 n2 (f l m)
 
-    pub parallel-comm : P l m ≡ P m l
-    parallel-comm = fronts (l ++ m) (m ++ l) (λ a b. ph l m w v a b ∙ or-comm (holds l a b) (holds m a b) ∙ sym (ph m l v w a b))
+    comm : ((x y : Bool) → op x y ≡ op y x) → (l m : List Pair) → AllWithin n1 n2 l → AllWithin n1 n2 m → F l m ≡ F m l
+    comm law l m w v = fronts (f l m) (f m l) (λ a b. fh l m w v a b ∙ law (holds l a b) (holds m a b) ∙ sym (fh m l v w a b))
 
-    module _ (k : List Pair) (x : AllWithin n1 n2 k) where
-      pub series-assoc : S (S l m) k ≡ S l (S m k)
-      series-assoc =
-          fronts (minima (S l m) k) (minima l (S m k))
-          (λ a b. rw (sh (S l m) k (wf (minima l m)) x a b, sh l m w v a b, sh l (S m k) w (wf (minima m k)) a b, sh m k v x a b) (and-assoc (holds l a b) (holds m a b) (holds k a b)))
+    self : ((x : Bool) → op x x ≡ x) → (l : List Pair) → RecordForm n1 n2 l → F l l ≡ l
+    self law l r = form-same n1 n2 (F l l) l (front-form n1 n2 (f l l)) r .1 (λ a b _ _. fh l l (r .within) (r .within) a b ∙ law (holds l a b))
 
-      pub parallel-assoc : P (P l m) k ≡ P l (P m k)
-      parallel-assoc =
-          fronts (P l m ++ k) (l ++ P m k)
-          (λ a b. rw (ph (P l m) k (wf (l ++ m)) x a b, ph l m w v a b, ph l (P m k) w (wf (m ++ k)) a b, ph m k v x a b) (or-assoc (holds l a b) (holds m a b) (holds k a b)))
+    module _ (l m : List Pair) (w : AllWithin n1 n2 l) (v : AllWithin n1 n2 m) (k : List Pair) (u : AllWithin n1 n2 k) where
+      assoc : ((x y z : Bool) → op (op x y) z ≡ op x (op y z)) → F (F l m) k ≡ F l (F m k)
+      assoc law =
+          fronts (f (F l m) k) (f l (F m k)) (λ a b.
+          fh (F l m) k (front-within n1 n2 (f l m)) u a b ∙ ap (λ t. op t (holds k a b)) (fh l m w v a b) ∙ law (holds l a b) (holds m a b) (holds k a b)
+          ∙ ap (op (holds l a b)) (sym (fh m k v u a b)) ∙ sym (fh l (F m k) w (front-within n1 n2 (f m k)) a b))
 
-      pub series-over-parallel : S l (P m k) ≡ P (S l m) (S l k)
-      series-over-parallel =
-          fronts (minima l (P m k)) (S l m ++ S l k)
-          (λ a b. rw (sh l (P m k) w (wf (m ++ k)) a b, ph m k v x a b, ph (S l m) (S l k) (wf (minima l m)) (wf (minima l k)) a b, sh l m w v a b, sh l k w x a b) (and-or-distrib-left (holds l a b) (holds m a b) (holds k a b)))
+      -- F over another such operation
+      over : (g : List Pair → List Pair → List Pair) (or : Bool → Bool → Bool) → HoldsBy n1 n2 g or → ((x y z : Bool) → op x (or y z) ≡ or (op x y) (op x z))
+          → F l (front n1 n2 (g m k)) ≡ front n1 n2 (g (F l m) (F l k))
+      over g or gh law =
+          fronts (f l (front n1 n2 (g m k))) (g (F l m) (F l k)) (λ a b.
+          fh l (front n1 n2 (g m k)) w (front-within n1 n2 (g m k)) a b ∙ ap (op (holds l a b)) (gh m k v u a b) ∙ law (holds l a b) (holds m a b) (holds k a b)
+          ∙ ap₂ or (sym (fh l m w v a b)) (sym (fh l k w u a b)) ∙ sym (gh (F l m) (F l k) (front-within n1 n2 (f l m)) (front-within n1 n2 (f l k)) a b))
 
-      pub parallel-over-series : P l (S m k) ≡ S (P l m) (P l k)
-      parallel-over-series =
-          fronts (l ++ S m k) (minima (P l m) (P l k))
-          (λ a b. rw (ph l (S m k) w (wf (minima m k)) a b, sh m k v x a b, sh (P l m) (P l k) (wf (l ++ m)) (wf (l ++ k)) a b, ph l m w v a b, ph l k w x a b) (or-and-distrib-left (holds l a b) (holds m a b) (holds k a b)))
+  pub series-comm : (l m : List Pair) → AllWithin n1 n2 l → AllWithin n1 n2 m → series n1 n2 l m ≡ series n1 n2 m l
+  series-comm = comm minima _&&_ (series-holds n1 n2) and-comm
 
-  module _ (l : List Pair) (r : RecordForm n1 n2 l) where
-    pub series-self : S l l ≡ l
-    series-self = form-same n1 n2 (S l l) l (front-form n1 n2 (minima l l)) r .1 (λ a b _ _. sh l l (r .within) (r .within) a b ∙ and-self (holds l a b))
+  pub parallel-comm : (l m : List Pair) → AllWithin n1 n2 l → AllWithin n1 n2 m → parallel n1 n2 l m ≡ parallel n1 n2 m l
+  parallel-comm = comm union _||_ (parallel-holds n1 n2) or-comm
 
-    pub parallel-self : P l l ≡ l
-    parallel-self = form-same n1 n2 (P l l) l (front-form n1 n2 (l ++ l)) r .1 (λ a b _ _. ph l l (r .within) (r .within) a b ∙ or-self (holds l a b))
+  pub series-self : (l : List Pair) → RecordForm n1 n2 l → series n1 n2 l l ≡ l
+  series-self = self minima _&&_ (series-holds n1 n2) and-self
+
+  pub parallel-self : (l : List Pair) → RecordForm n1 n2 l → parallel n1 n2 l l ≡ l
+  parallel-self = self union _||_ (parallel-holds n1 n2) or-self
+
+  module _ (l m : List Pair) (w : AllWithin n1 n2 l) (v : AllWithin n1 n2 m) (k : List Pair) (u : AllWithin n1 n2 k) where
+    pub series-assoc : series n1 n2 (series n1 n2 l m) k ≡ series n1 n2 l (series n1 n2 m k)
+    series-assoc = assoc minima _&&_ (series-holds n1 n2) l m w v k u and-assoc
+
+    pub parallel-assoc : parallel n1 n2 (parallel n1 n2 l m) k ≡ parallel n1 n2 l (parallel n1 n2 m k)
+    parallel-assoc = assoc union _||_ (parallel-holds n1 n2) l m w v k u or-assoc
+
+    pub series-over-parallel : series n1 n2 l (parallel n1 n2 m k) ≡ parallel n1 n2 (series n1 n2 l m) (series n1 n2 l k)
+    series-over-parallel = over minima _&&_ (series-holds n1 n2) l m w v k u union _||_ (parallel-holds n1 n2) and-or-distrib-left
+
+    pub parallel-over-series : parallel n1 n2 l (series n1 n2 m k) ≡ series n1 n2 (parallel n1 n2 l m) (parallel n1 n2 l k)
+    parallel-over-series = over union _||_ (parallel-holds n1 n2) l m w v k u minima _&&_ (series-holds n1 n2) or-and-distrib-left
