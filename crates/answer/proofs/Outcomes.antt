@@ -1,5 +1,5 @@
 -- Tests in two stages: what the first ones settle, the later ones do not change.
-use mathlib.Core.Path.{_≡_, refl, sym, subst}
+use mathlib.Core.Path.{_≡_, refl, sym, ap, subst}
 use mathlib.Core.Bool.{Bool, true, false, cond}
 use mathlib.Core.List.{List, [], _∷_, _++_}
 use Prim.Native.Nat.{ℕ}
@@ -15,9 +15,28 @@ refused-apart n v e = subst tell e tt
     tell (success v) = ⊥
     tell (refused n) = Unit
 
--- a success says that every test is false
+-- a success says that every test is false, and the other way about
 pub outcome-tests : (ts : List (ℕ × Bool)) (v : List ℕ) → outcome ts v ≡ success v → (t : ℕ × Bool) → t ∈ ts → t .1 ≡ false
 outcome-tests ts v e = first-none refused (success v) (λ n. refused-apart n v) ts .0 e
+
+pub outcome-success : (ts : List (ℕ × Bool)) (v : List ℕ) → ((t : ℕ × Bool) → t ∈ ts → t .1 ≡ false) → outcome ts v ≡ success v
+outcome-success ts v h = first-none refused (success v) (λ n. refused-apart n v) ts .1 h
+
+-- the values of a success are those of the call
+pub outcome-values : (ts : List (ℕ × Bool)) (v w : List ℕ) → outcome ts v ≡ success w → v ≡ w
+outcome-values [] v w e = success-same e
+  where
+    success-same : {v w : List ℕ} → success v ≡ success w → v ≡ w
+    success-same e = ap told e
+      where
+        told : Outcome → List ℕ
+        told (success v) = v
+        told (refused n) = []
+outcome-values (t ∷ ts) v w e = go (t .1) e (outcome-values ts v w)
+  where
+    go : (b : Bool) → cond b (refused (t .0)) (outcome ts v) ≡ success w → (outcome ts v ≡ success w → v ≡ w) → v ≡ w
+    go true f r = absurd (refused-apart (t .0) w f)
+    go false f r = r f
 
 -- a refusal by the first tests is the answer
 pub outcome-refused : (ts us : List (ℕ × Bool)) (v w : List ℕ) (n : ℕ) → outcome ts v ≡ refused n → outcome (ts ++ us) w ≡ refused n

@@ -8,9 +8,11 @@ use Rattle.laws.specs.First.{firstTrue}
 use Rattle.answer.specs.declared.Refusal.{Refusal}
 use Rattle.answer.specs.declared.Written.{Written}
 use Rattle.answer.specs.declared.Done.{Done}
+use Rattle.answer.specs.declared.Opened.{Opened}
 use Rattle.answer.specs.declared.Refusal.the-variants as refusal
 use Rattle.answer.specs.declared.Written.the-variants as written-as
 use Rattle.answer.specs.declared.Done.the-variants as done-as
+use Rattle.answer.specs.declared.Opened.the-variants as opened-as
 
 -- a success and its values, or a refusal and its number
 pub data Outcome : Type 0 where
@@ -60,6 +62,11 @@ written (written-as.Refused r) = refused (numberOf r)
 abbrev pub done : Done → Outcome
 done done-as.Done = success (0 ∷ [])
 done (done-as.Refused r) = refused (numberOf r)
+
+-- "opening N, A, M, s, t, n1, n2"
+abbrev pub opened : Opened → Outcome
+opened (opened-as.Study h) = success (h .nodes ∷ h .arcs ∷ h .rounds ∷ h .source ∷ h .target ∷ h .n1 ∷ h .n2 ∷ [])
+opened (opened-as.Refused r) = refused (numberOf r)
 
 -- ---- deliver: bytes into a slice, or 15
 abbrev pub deliverAnswer : List ℕ → ℕ → Outcome

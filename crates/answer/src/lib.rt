@@ -59,6 +59,23 @@ pub enum Done {
     Refused(Refusal),
 }
 
+// What opening finds in a study file: document 01's N, A, M, s, t, n1, n2.
+pub struct Header {
+    pub nodes: usize,
+    pub arcs: usize,
+    pub rounds: usize,
+    pub source: usize,
+    pub target: usize,
+    pub n1: usize,
+    pub n2: usize,
+}
+
+// The answer of opening.
+pub enum Opened {
+    Study(Header),
+    Refused(Refusal),
+}
+
 // Document 01's number of a refusal.
 pub fn number(refusal: Refusal) -> u32
     ensures { λ r. ⌜ r ≡ numberOf refusal ⌝ }

@@ -1,10 +1,10 @@
 -- Parts of lists: two elements stored or read side by side.
 use mathlib.Core.Path.{_≡_, sym, ap, _∙_}
 use mathlib.Core.List.{List, [], _∷_, _++_}
-use Prim.Native.Nat.{ℕ, suc, _+_, _<_}
+use Prim.Native.Nat.{ℕ, zero, suc, _+_, _-_, _≤_, _<_}
 use native.Mathlib.Omega.{arith}
-use lib.ListN.{length, getD, set, drop, length-append}
-use lib.Seq.{set-at, drop-cons, append-snoc}
+use lib.ListN.{length, getD, set, take, drop, length-append, length-drop}
+use lib.Seq.{set-at, drop-cons, append-snoc, take-all, take-nil, take-take}
 
 module _ {A : Type 0} where
   -- stores at n and n + 1, where n elements stand in front
@@ -19,3 +19,14 @@ module _ {A : Type 0} where
       let e : n + 1 ≡ suc n = omega arith in
       let f : n + 2 ≡ suc (n + 1) = omega arith in
       drop-cons l n d (omega arith) ∙ ap (λ r. getD l n d ∷ r) (ap (λ k. drop k l) (sym e) ∙ drop-cons l (n + 1) d h ∙ ap (λ k. getD l (n + 1) d ∷ drop k l) (sym f))
+
+  -- a part that reaches to the end
+  pub tail-part : (l : List A) (n : ℕ) → take (length l - n) (drop n l) ≡ drop n l
+  tail-part l n = take-all (length l - n) (drop n l) (omega (arith, length-drop n l))
+
+  -- a part of a part
+  pub part-part : (l : List A) (at n m : ℕ) → at + n ≤ m → take n (drop at (take m l)) ≡ take n (drop at l)
+  part-part l zero n m h = take-take n m l (omega arith)
+  part-part [] (suc at) n m h = ap (λ r. take n (drop (suc at) r)) (take-nil m)
+  part-part (x ∷ l) (suc at) n zero h = absurd (omega arith)
+  part-part (x ∷ l) (suc at) n (suc m) h = part-part l at n m (omega arith)

@@ -1,7 +1,7 @@
 -- Tests: what a Bool that was computed says. `T b` is the fact that b is true.
 use mathlib.Core.Path.{_≡_, refl}
 use mathlib.Core.Logic.{_↔_, _⊎_, inl, inr, ⊎-elim}
-use mathlib.Core.Bool.{Bool, true, false, _&&_, _||_, false≢true}
+use mathlib.Core.Bool.{Bool, true, false, _&&_, _||_, true≢false, false≢true}
 use Prim.Native.Nat.{ℕ, _≤_, _<_}
 use native.Mathlib.Decide.{decLe}
 use native.Mathlib.Omega.{arith}
@@ -25,6 +25,15 @@ T-and false b = (λ t. absurd t, λ k. k .0)
 pub T-or : (a b : Bool) → T (a || b) ↔ (T a ⊎ T b)
 T-or true b = (λ t. inl tt, λ k. tt)
 T-or false b = (λ t. inr t, ⊎-elim (λ t. absurd t) (λ t. t))
+
+-- what a failed "or" and a passed "and" say of their two tests
+pub or-none : (a b : Bool) → (a || b) ≡ false → (a ≡ false) × (b ≡ false)
+or-none true b e = absurd (true≢false e)
+or-none false b e = (refl, e)
+
+pub and-both : (a b : Bool) → (a && b) ≡ true → (a ≡ true) × (b ≡ true)
+and-both true b e = (refl, e)
+and-both false b e = absurd (false≢true e)
 
 -- a test passes or it does not
 pub decide : (a : Bool) → T a ⊎ (T a → ⊥)

@@ -2,24 +2,11 @@
 mod valid;
 
 use front::Pair;
+use slices::byte;
+use slices::wide;
 pub use valid::is_record;
 ghost use mathlib.Core.Path.{_≡_};
-ghost use Prim.Native.Nat.{_<_};
-ghost use lib.ListN.{getD};
 ghost use Rattle.record.specs.Record.{size1, size2, count, pairAt, recordHolds};
-
-// The byte at a place, 0 past the end.
-fn byte(bytes: &[u8], at: usize) -> u8
-    ensures { λ r. ⌜ r ≡ getD (now (bytes .entry)) at 0 ⌝ }
-{
-    if at < bytes.len() { bytes[at] } else { 0 }
-}
-
-fn wide(x: u8) -> usize
-    ensures { λ r. ⌜ (r ≡ x) × (r < 256) ⌝ }
-{
-    x as usize
-}
 
 // The three bytes in front of the pairs.
 pub struct Head {

@@ -1,8 +1,8 @@
 // The test of number 12.
 use crate::pair_at;
 use crate::read_head;
-use crate::wide;
 use front::Pair;
+use slices::wide;
 ghost use mathlib.Core.Path.{_≡_};
 ghost use mathlib.Core.Bool.{_&&_};
 ghost use Prim.Native.Nat.{_+_, _*_, _≤_};

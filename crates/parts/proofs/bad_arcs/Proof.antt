@@ -1,0 +1,64 @@
+-- `parts::bad_arcs`: what is found before arc i, and what the arcs from i on say.
+use mathlib.Core.Path.{_≡_, refl, sym, _∙_}
+use mathlib.Core.Bool.{_||_}
+use Prim.Native.Nat.{_-_, _/_, _≤_}
+use native.Mathlib.Omega.{arith}
+use borrow.Author.Needs.{needs}
+use lib.ListN.{length}
+use Rattle.parts.specs.Tests.{badArc, badArcs}
+use Rattle.parts.proofs.Scans.{anyArc, arc-next, arc-end}
+use Rattle.parts.proofs.bad_arcs.Statement.{statement}
+use Rattle.parts.proofs.bad_arcs.Tie as tie
+
+abbrev Inv-loop : tie.InvT-loop
+Inv-loop n arcs bad₀ i₀ bad i = (i ≤ length arcs / 2) × (badArcs n arcs ≡ (bad || anyArc (badArc n) arcs i))
+
+abbrev μ-loop : tie.MeasureT-loop
+μ-loop n arcs bad₀ i₀ bad i = length arcs / 2 - i
+
+loop-holds : tie.Need-loop-holds Inv-loop μ-loop
+loop-holds c = (omega arith, refl)
+
+mul-from : tie.Need-mul-from Inv-loop μ-loop
+mul-from c = search needs
+
+shared-slice-read-from : tie.Need-shared-slice-read-from Inv-loop μ-loop
+shared-slice-read-from c = search needs
+
+mul-to : tie.Need-mul-to Inv-loop μ-loop
+mul-to c = search needs
+
+add-to : tie.Need-add-to Inv-loop μ-loop
+add-to c = search needs
+
+shared-slice-read-to : tie.Need-shared-slice-read-to Inv-loop μ-loop
+shared-slice-read-to c = search needs
+
+add-i : tie.Need-add-i Inv-loop μ-loop
+add-i c = search needs
+
+loop-less : tie.Need-loop-less Inv-loop μ-loop
+loop-less c = search needs
+
+loop-again : tie.Need-loop-again Inv-loop μ-loop
+loop-again c = let a = c .before .before .before .before .args in let l = c .before .before .before .loop in (omega arith, l .inv .1 ∙ arc-next (badArc (a .n)) (l .bad) (a .arcs .now) (l .i) (omega arith))
+
+returns : tie.Need-returns Inv-loop μ-loop
+returns c = let a = c .before .before .args in let l = c .before .loop in sym (l .inv .1 ∙ arc-end (badArc (a .n)) (l .bad) (a .arcs .now) (l .i) (omega arith))
+
+pub bad-arcs-spec : {M : Type 1} → statement M
+bad-arcs-spec =
+    tie.close
+    (tie.spec
+    Inv-loop
+    μ-loop
+    loop-holds
+    mul-from
+    shared-slice-read-from
+    mul-to
+    add-to
+    shared-slice-read-to
+    add-i
+    loop-less
+    loop-again
+    returns)

@@ -1,0 +1,2 @@
+pub mod Study
+pub mod Tests

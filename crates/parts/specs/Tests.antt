@@ -1,0 +1,40 @@
+-- The tests of a study's parts (document 01, "Numbers from the input"): 2, 3 and 5 to 8, on numbers and bytes, for opening and writer.
+use mathlib.Core.Bool.{Bool, not, _||_}
+use mathlib.Core.List.{List, [], _∷_}
+use Prim.Native.Nat.{ℕ}
+use lib.Dec.{eqb, leb, ltb}
+use lib.ListN.{getD}
+use Rattle.laws.specs.Members.{any}
+use Rattle.orders.specs.Order.{count}
+use Rattle.parts.specs.Study.{Arc, arcsFrom}
+
+-- 2 N, A or M out of limits
+abbrev pub badCounts : ℕ → ℕ → ℕ → Bool
+badCounts N A M = ltb N 2 || ltb 160 N || ltb 1024 A || ltb 100000 M
+
+-- 3 s or t not below N, or s = t
+abbrev pub badEnds : ℕ → ℕ → ℕ → Bool
+badEnds N s t = leb N s || leb N t || eqb s t
+
+-- 5 node byte above 2
+abbrev pub badClasses : List ℕ → Bool
+badClasses nodes = any (ltb 2) nodes
+
+-- 6 a class size above 64
+abbrev pub badSizes : List ℕ → Bool
+badSizes nodes = ltb 64 (count 1 nodes) || ltb 64 (count 2 nodes)
+
+-- 7 s or t not class 0
+abbrev pub badEndClasses : List ℕ → ℕ → ℕ → Bool
+badEndClasses nodes s t = not (eqb (getD nodes s 0) 0) || not (eqb (getD nodes t 0) 0)
+
+-- 8 an arc end not below N, or both ends equal
+abbrev pub badArc : ℕ → Arc → Bool
+badArc N a = leb N (a .from) || leb N (a .to) || eqb (a .from) (a .to)
+
+abbrev pub badArcs : ℕ → List ℕ → Bool
+badArcs N arcs = any (badArc N) (arcsFrom 0 arcs)
+
+-- the tests of nodes and arcs, in 01's order
+abbrev pub partTests : ℕ → List ℕ → List ℕ → ℕ → ℕ → List (ℕ × Bool)
+partTests N nodes arcs s t = (5, badClasses nodes) ∷ (6, badSizes nodes) ∷ (7, badEndClasses nodes s t) ∷ (8, badArcs N arcs) ∷ []

@@ -1,0 +1,73 @@
+// The tests of a study's parts that opening and writer share: numbers 2, 3 and 5 to 8.
+use answer::Done;
+use answer::Refusal;
+use orders::count;
+use slices::byte;
+ghost use mathlib.Core.Path.{_≡_};
+ghost use mathlib.Core.List.{[], _∷_};
+ghost use Prim.Native.Nat.{_≤_};
+ghost use lib.ListN.{length};
+ghost use Rattle.answer.specs.Outcome.{done, outcome};
+ghost use Rattle.parts.specs.Tests.{badCounts, badEnds, badClasses, badSizes, badEndClasses, badArcs, partTests};
+
+// Number 2: the numbers of nodes, arcs and rounds.
+pub fn bad_counts(nodes: usize, arcs: usize, rounds: usize) -> bool
+    ensures { λ r. ⌜ r ≡ badCounts nodes arcs rounds ⌝ }
+{
+    (nodes < 2) | (160 < nodes) | (1024 < arcs) | (100000 < rounds)
+}
+
+// Number 3: source and target are two nodes.
+pub fn bad_ends(nodes: usize, source: usize, target: usize) -> bool
+    ensures { λ r. ⌜ r ≡ badEnds nodes source target ⌝ }
+{
+    (nodes <= source) | (nodes <= target) | (source == target)
+}
+
+// Number 5.
+fn bad_classes(nodes: &[u8]) -> bool
+    ensures { λ r. ⌜ r ≡ badClasses (now (nodes .entry)) ⌝ }
+{
+    let mut bad = false;
+    let mut v = 0;
+    while v < nodes.len() {
+        bad = bad | (2 < nodes[v]);
+        v += 1;
+    }
+    bad
+}
+
+// Number 8, for n nodes.
+fn bad_arcs(n: u8, arcs: &[u8]) -> bool
+    ensures { λ r. ⌜ r ≡ badArcs n (now (arcs .entry)) ⌝ }
+{
+    let mut bad = false;
+    let mut i = 0;
+    while i < arcs.len() / 2 {
+        let from = arcs[2 * i];
+        let to = arcs[2 * i + 1];
+        bad = bad | ((n <= from) | (n <= to) | (from == to));
+        i += 1;
+    }
+    bad
+}
+
+// Numbers 5 to 8.
+pub fn test_parts(nodes: &[u8], arcs: &[u8], source: usize, target: usize) -> Done
+    requires { ⌜ length (now nodes) ≤ 160 ⌝ }
+    ensures { λ r. ⌜ done r ≡ outcome (partTests (length (now (nodes .entry))) (now (nodes .entry)) (now (arcs .entry)) source target) (0 ∷ []) ⌝ }
+{
+    if bad_classes(nodes) {
+        return Done::Refused(Refusal::NodeClass);
+    }
+    if (64 < count(nodes, 1)) | (64 < count(nodes, 2)) {
+        return Done::Refused(Refusal::ClassSize);
+    }
+    if (byte(nodes, source) != 0) | (byte(nodes, target) != 0) {
+        return Done::Refused(Refusal::EndClass);
+    }
+    if bad_arcs(nodes.len() as u8, arcs) {
+        return Done::Refused(Refusal::Arc);
+    }
+    Done::Done
+}

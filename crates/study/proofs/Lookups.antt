@@ -1,0 +1,111 @@
+-- What an opened file says of lookup.
+use mathlib.Core.Path.{_≡_, sym, ap, ap₂, _∙_, subst}
+use mathlib.Core.Bool.{Bool, true, false, cond}
+use mathlib.Core.List.{List, [], _∷_, _++_, Memᴰ·append-left, Memᴰ·append-right}
+use Prim.Native.Nat.{ℕ, _+_, _-_, _*_, _/_, _≤_, _<_}
+use native.Mathlib.Nat.{mul-le-mul-right, suc-mul, le-of-eq}
+use native.Mathlib.Omega.{arith}
+use borrow.Author.Tests.{ltb-false, lt-leb, le-leb}
+use lib.Dec.{leb}
+use lib.ListN.{length, getD, take, drop}
+use lib.Seq.{drop-drop}
+use Rattle.laws.specs.Members.{_∈_, here, there}
+use Rattle.laws.specs.Parts.{part-part}
+use Rattle.answer.proofs.Outcomes.{outcome-tests, outcome-refused, outcome-passed, outcome-values}
+use Rattle.answer.specs.Outcome.{Outcome, success, refused}
+use Rattle.parts.proofs.Limits.{PartsFit, parts-fit, parts-within, piece-at}
+use Rattle.parts.specs.Study.{roundSize, WithinLimits}
+use Rattle.parts.specs.Tests.{badCounts, badEnds}
+use Rattle.slices.specs.Bytes.{partAt}
+use Rattle.study.specs.Calls.{badRounds, badNumber, openTests, openValues, openAnswer, checkAnswer, whereGood, lookupPart}
+use Rattle.study.specs.File.{trailerAt, trailer, nodesOf, arcsOf, roundsOf, roundOf, studyOf}
+use Rattle.study.proofs.Opens.{firstTests, nextTests}
+use Rattle.study.proofs.Trailers.{Fits, trailer-fits, nodes-length, arcs-length, rounds-length}
+
+-- ---- a file that opens
+module _ (f w : List ℕ) (o : openAnswer f ≡ success w) where
+  pub open-values : openValues f ≡ w
+  open-values = outcome-values (openTests f) (openValues f) w o
+
+  opens : openAnswer f ≡ success (openValues f)
+  opens = o ∙ ap success (sym open-values)
+
+  tests : (u : ℕ × Bool) → u ∈ openTests f → u .1 ≡ false
+  tests = outcome-tests (openTests f) (openValues f) opens
+
+  first : (u : ℕ × Bool) → u ∈ firstTests f → u .1 ≡ false
+  first u m = tests u (Memᴰ·append-left ((9, badRounds f) ∷ []) (Memᴰ·append-left (nextTests f) m))
+
+  pub open-fits : Fits (length f) (trailer f)
+  open-fits = trailer-fits (length f) (trailer f) first
+
+  pub open-parts : PartsFit (trailer f .nodes) (nodesOf f) (arcsOf f) (trailer f .source) (trailer f .target)
+  open-parts =
+      parts-fit (trailer f .nodes) (nodesOf f) (arcsOf f) (trailer f .source) (trailer f .target)
+      (λ u m. tests u (Memᴰ·append-left ((9, badRounds f) ∷ []) (Memᴰ·append-right (firstTests f) m)))
+
+  open-rounds : badRounds f ≡ false
+  open-rounds = tests (9, badRounds f) (Memᴰ·append-right (firstTests f ++ nextTests f) here)
+
+  -- the check of a round: the last test decides
+  last : (r : ℕ) (b : Bool) → badNumber f r ≡ b → checkAnswer f r ≡ cond b (refused 10) (success (0 ∷ []))
+  last r b e = outcome-passed (openTests f) ((10, badNumber f r) ∷ []) (openValues f) (0 ∷ []) opens ∙ ap (λ t. cond t (refused 10) (success (0 ∷ []))) e
+
+  rounds-are : trailer f .rounds ≡ getD w 2 0
+  rounds-are = ap (λ l. getD l 2 0) open-values
+
+  pub check-ten : (r : ℕ) → getD w 2 0 ≤ r → checkAnswer f r ≡ refused 10
+  check-ten r h = last r true (ap (λ m. leb m r) rounds-are ∙ le-leb (getD w 2 0) r h)
+
+  pub check-good : (r : ℕ) → r < getD w 2 0 → checkAnswer f r ≡ success (0 ∷ [])
+  check-good r h = last r false (ap (λ m. leb m r) rounds-are ∙ lt-leb (getD w 2 0) r h)
+
+  -- the round's bytes, as the code finds them
+  size-is : roundSize (nodesOf f) ≡ getD w 5 0 + getD w 6 0
+  size-is = ap₂ _+_ (ap (λ l. getD l 5 0) open-values) (ap (λ l. getD l 6 0) open-values)
+
+  inside : (r n : ℕ) → r < trailer f .rounds → n ≡ roundSize (nodesOf f) → r * n + n ≤ trailer f .dm
+  inside r n h e =
+      omega (arith, suc-mul r n, mul-le-mul-right n h, ap (λ k. trailer f .rounds * k) e, ltb-false (trailer f .dm) (trailer f .rounds * roundSize (nodesOf f)) open-rounds)
+
+  pub sum-small : getD w 5 0 + getD w 6 0 ≤ 128
+  sum-small = omega (arith, ap (λ l. getD l 5 0) open-values, ap (λ l. getD l 6 0) open-values, open-parts .sizes)
+
+  pub round-small : (r : ℕ) → r < getD w 2 0 → r * (getD w 5 0 + getD w 6 0) ≤ 16777216
+  round-small r h =
+      let fits = open-fits in
+      omega (arith, inside r (getD w 5 0 + getD w 6 0) (omega (arith, rounds-are)) (sym size-is), fits .dm-da, fits .da-dn, fits .dn-at, fits .short)
+
+  pub round-part : (r : ℕ) → r < getD w 2 0 → let n = getD w 5 0 + getD w 6 0 in partAt (trailerAt f - trailer f .dm + r * n) n f ≡ lookupPart f r
+  round-part r h =
+      let n = roundSize (nodesOf f) in
+      let m = trailer f .rounds * n in
+      let at = trailerAt f - trailer f .dm in
+      let k : r < trailer f .rounds = omega (arith, rounds-are) in
+      ap (λ i. partAt (at + r * i) i f) (sym size-is) ∙ ap (take n) (sym (drop-drop (r * n) at f))
+      ∙ sym (part-part (drop at f) (r * n) n m (omega (arith, suc-mul r n, mul-le-mul-right n k)))
+      ∙ ap (λ (a : Outcome). whereGood a (roundOf f r)) (sym (check-good r h))
+
+  -- ---- THE STUDY OF A FILE THAT OPENS is within document 01's limits
+  pub study-within : WithinLimits (studyOf f)
+  study-within =
+      let h = trailer f in
+      let fits = open-fits in
+      let n : length (nodesOf f) ≡ h .nodes = nodes-length f fits in
+      let a : length (arcsOf f) / 2 ≡ h .arcs = omega (arith, arcs-length f fits) in
+      parts-within (nodesOf f) (arcsOf f) (roundsOf f) (h .source) (h .target) (h .rounds)
+      (ap₂ (λ x y. badCounts x y (h .rounds)) n a ∙ first (2, badCounts (h .nodes) (h .arcs) (h .rounds)) (there here))
+      (ap (λ x. badEnds x (h .source) (h .target)) n ∙ first (3, badEnds (h .nodes) (h .source) (h .target)) (there (there here)))
+      (subst (λ x. PartsFit x (nodesOf f) (arcsOf f) (h .source) (h .target)) (sym n) open-parts)
+      (le-of-eq (sym (rounds-length f fits open-rounds)))
+
+  -- a round of the study is the part that lookup hands back
+  pub study-round : (r : ℕ) → r < trailer f .rounds → getD (studyOf f .rounds) r [] ≡ lookupPart f r
+  study-round r h = piece-at (trailer f .rounds) (roundSize (nodesOf f)) (roundsOf f) r h ∙ ap (λ (a : Outcome). whereGood a (roundOf f r)) (sym (check-good r (omega (arith, rounds-are))))
+
+-- a file that does not open has no rounds
+pub check-refused : (f : List ℕ) (r n : ℕ) → openAnswer f ≡ refused n → checkAnswer f r ≡ refused n
+check-refused f r n e = outcome-refused (openTests f) ((10, badNumber f r) ∷ []) (openValues f) (0 ∷ []) n e
+
+pub lookup-refused : (f : List ℕ) (r n : ℕ) → checkAnswer f r ≡ refused n → [] ≡ lookupPart f r
+lookup-refused f r n e = ap (λ (a : Outcome). whereGood a (roundOf f r)) (sym e)
