@@ -4,8 +4,22 @@ use mathlib.Core.Bool.{true, false}
 use mathlib.Core.List.{List, [], _∷_}
 use Prim.Native.Nat.{ℕ}
 use Rattle.answer.specs.Outcome.{success, refused}
+use Rattle.slices.specs.Bytes.{wordAt}
+use Rattle.study.specs.File.{trailer}
+use Rattle.study.specs.Calls.{badOrders, openAnswer, checkAnswer, lookupPart}
+use Rattle.writer.specs.Writer.{Given, given, studyBytes, writeAnswer}
 use Rattle.record.specs.Record.{isRecord, recordHolds}
 use Rattle.compose.specs.Compose.{seriesAnswer, seriesOut, parallelAnswer, parallelOut}
+
+-- "Nodes 0 to 5 of classes 0, 0, 1, 1, 2, 2; s 0, t 1; arcs 0 2, 2 4, 4 1, 0 3, 3 1, 0 5, 5 1", with one round
+abbrev pub ringWith : List ℕ → Given
+ringWith round = given (0 ∷ 0 ∷ 1 ∷ 1 ∷ 2 ∷ 2 ∷ []) (0 ∷ 2 ∷ 2 ∷ 4 ∷ 4 ∷ 1 ∷ 0 ∷ 3 ∷ 3 ∷ 1 ∷ 0 ∷ 5 ∷ 5 ∷ 1 ∷ []) round 0 1 1
+
+-- its study file: nodes, arcs, the round 3 2 5 4, then the eight numbers of the trailer
+abbrev pub ringFile : List ℕ
+ringFile =
+    0 ∷ 0 ∷ 1 ∷ 1 ∷ 2 ∷ 2 ∷ 0 ∷ 2 ∷ 2 ∷ 4 ∷ 4 ∷ 1 ∷ 0 ∷ 3 ∷ 3 ∷ 1 ∷ 0 ∷ 5 ∷ 5 ∷ 1 ∷ 3 ∷ 2 ∷ 5 ∷ 4 ∷ 6 ∷ 0 ∷ 0 ∷ 0 ∷ 7 ∷ 0 ∷ 0 ∷ 0 ∷ 1 ∷ 0 ∷ 0 ∷ 0 ∷ 0 ∷ 0 ∷ 0 ∷ 0 ∷ 1 ∷ 0 ∷ 0 ∷ 0
+    ∷ 24 ∷ 0 ∷ 0 ∷ 0 ∷ 18 ∷ 0 ∷ 0 ∷ 0 ∷ 4 ∷ 0 ∷ 0 ∷ 0 ∷ []
 
 -- the ring's record, the record that R3 and R4 join it with, and an empty front
 abbrev pub ring : List ℕ
@@ -22,6 +36,20 @@ abbrev pub ten : List ℕ
 ten = 9 ∷ 9 ∷ 9 ∷ 9 ∷ 9 ∷ 9 ∷ 9 ∷ 9 ∷ 9 ∷ 9 ∷ []
 
 pub record Table : Type 0 where
+  -- R1 written: 56 bytes, dN 24, dA 18, dM 4
+  pub r1-answer : writeAnswer (ringWith (3 ∷ 2 ∷ 5 ∷ 4 ∷ [])) 56 ≡ success (56 ∷ [])
+  pub r1-bytes : studyBytes (ringWith (3 ∷ 2 ∷ 5 ∷ 4 ∷ [])) ≡ ringFile
+  pub r1-dn : trailer ringFile .dn ≡ 24
+  pub r1-da : trailer ringFile .da ≡ 18
+  pub r1-dm : trailer ringFile .dm ≡ 4
+  -- and read back: N 6, A 7, M 1, s 0, t 1, n1 2, n2 2; its one round
+  pub r1-opens : openAnswer ringFile ≡ success (6 ∷ 7 ∷ 1 ∷ 0 ∷ 1 ∷ 2 ∷ 2 ∷ [])
+  pub r1-round : lookupPart ringFile 0 ≡ 3 ∷ 2 ∷ 5 ∷ 4 ∷ []
+  pub r1-orders : badOrders ringFile 0 ≡ false
+  pub r1-ten : checkAnswer ringFile 1 ≡ refused 10
+  pub r1-short : writeAnswer (ringWith (3 ∷ 2 ∷ 5 ∷ 4 ∷ [])) 55 ≡ refused 15
+  -- R9 round 3 3 5 4: 11
+  pub r9 : writeAnswer (ringWith (3 ∷ 3 ∷ 5 ∷ 4 ∷ [])) 56 ≡ refused 11
   -- R2: the record holds at (2, 0), not at (2, 1)
   pub r2-record : isRecord ring ≡ true
   pub r2-holds : recordHolds ring 2 0 ≡ true
@@ -47,8 +75,20 @@ pub record Table : Type 0 where
   pub large : isRecord (65 ∷ 0 ∷ 0 ∷ []) ≡ false
 
 pub table : Table
+unfolding wordAt
 table =
     record {
+      r1-answer = refl;
+      r1-bytes = refl;
+      r1-dn = refl;
+      r1-da = refl;
+      r1-dm = refl;
+      r1-opens = refl;
+      r1-round = refl;
+      r1-orders = refl;
+      r1-ten = refl;
+      r1-short = refl;
+      r9 = refl;
       r2-record = refl;
       r2-holds = refl;
       r2-fails = refl;

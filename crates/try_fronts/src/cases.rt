@@ -1,30 +1,8 @@
 // Generated records: good ones of all sizes, and damaged ones.
-use crate::plain::byte;
-use crate::plain::poke;
+use trial::byte;
+use trial::pick;
+use trial::poke;
 ghost use Prim.Native.Nat.{_≤_, _<_};
-
-fn next(x: u64) -> u64
-    ensures { λ r. ⌜ r < 2147483648 ⌝ }
-{
-    (x % 2147483648 * 1103515245 + 12345) % 2147483648
-}
-
-// A seed for each case.
-pub(crate) fn seed(i: u64) -> u64
-    ensures { λ r. ⌜ r < 2147483648 ⌝ }
-{
-    next(next(i % 1000000 * 2 + 1))
-}
-
-// A number from a seed, below n, for each use its own.
-fn pick(seed: u64, use_of: u64, n: u64) -> u64
-    ensures { λ r. ⌜ r ≤ n ⌝ }
-{
-    if n == 0 {
-        return 0;
-    }
-    next(next(seed % 2147483648 + use_of % 65536 * 7919)) / 64 % n
-}
 
 // A class size: small as a rule, at times any, and 64 now and then.
 fn size(seed: u64, use_of: u64) -> u64

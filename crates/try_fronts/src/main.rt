@@ -5,6 +5,7 @@ mod plain;
 
 use answer::Written;
 use libc::STDOUT_FILENO;
+use trial::line;
 
 // What a run has seen.
 struct Counts {
@@ -63,9 +64,9 @@ fn held(kind: u8, left: &[u8], right: &[u8], room: usize) -> u64 {
     }
     // A refusal leaves the slice as it was.
     if got < 1000 {
-        return if_so(plain::equal(&out, &untouched), got);
+        return if_so(trial::equal(&out, &untouched), got);
     }
-    if_so(plain::equal(&out, &want), got)
+    if_so(trial::equal(&out, &want), got)
 }
 
 // The case of a seed.
@@ -103,12 +104,6 @@ fn counted(c: Counts, got: u64) -> Counts {
     }
 }
 
-fn line(name: &[u8], n: u64) {
-    io::write_all(STDOUT_FILENO, name);
-    io::print_decimal(STDOUT_FILENO, n);
-    io::write_all(STDOUT_FILENO, b"\n");
-}
-
 fn run(kind: u8) -> Counts {
     let mut c = Counts {
         tried: 0,
@@ -120,7 +115,7 @@ fn run(kind: u8) -> Counts {
     };
     let mut i: u64 = 0;
     while i < 4000 {
-        c = counted(c, one(cases::seed(i), kind));
+        c = counted(c, one(trial::seed(i), kind));
         i += 1;
     }
     c

@@ -1,21 +1,7 @@
 // The plain check: a record's cells one by one, and the corners of what holds.
+use trial::byte;
+use trial::poke;
 ghost use Prim.Native.Nat.{_≤_, _<_};
-
-fn wide(x: u8) -> u64
-    ensures { λ r. ⌜ r < 256 ⌝ }
-{
-    x as u64
-}
-
-// The byte at a place, and 0 past the end.
-pub(crate) fn byte(bytes: &[u8], at: usize) -> u64
-    ensures { λ r. ⌜ r < 256 ⌝ }
-{
-    if at < bytes.len() {
-        return wide(bytes[at]);
-    }
-    0
-}
 
 // Whether some pair of the bytes is above a in p1 and above b in p2.
 fn cell(bytes: &[u8], a: u64, b: u64) -> bool {
@@ -73,13 +59,6 @@ fn corner(kind: u8, left: &[u8], right: &[u8], a: u64, b: u64) -> bool
         & !joined(kind, left, right, a, b + 1)
 }
 
-// Stores a byte where the slice has that place.
-pub(crate) fn poke(bytes: &mut [u8], at: usize, value: u64) {
-    if at < bytes.len() {
-        bytes[at] = (value % 256) as u8;
-    }
-}
-
 // The corners of a row of cells, written as pairs after the k that stand, and their count with those.
 fn corners(kind: u8, left: &[u8], right: &[u8], a: u64, out: &mut [u8], k: usize) -> usize
     requires { ⌜ (a < 256) × (k ≤ 66) ⌝ }
@@ -125,18 +104,4 @@ pub(crate) fn join(kind: u8, left: &[u8], right: &[u8], out: &mut [u8]) -> u64
     }
     poke(out, 2, k as u64);
     1003 + 2 * k as u64
-}
-
-pub(crate) fn equal(a: &[u8], b: &[u8]) -> bool {
-    if a.len() != b.len() {
-        return false;
-    }
-    let mut i = 0;
-    while i < a.len() {
-        if byte(a, i) != byte(b, i) {
-            return false;
-        }
-        i += 1;
-    }
-    true
 }

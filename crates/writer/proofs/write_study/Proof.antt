@@ -38,17 +38,14 @@ add-dn c = search needs
 add-dn-2 : tie.Need-add-dn-2
 add-dn-2 c = omega (arith, given-small (of (c .before .before .before .before .before .before .before)) (passed c))
 
-add-if1 : tie.Need-add-if1
-add-if1 c = omega (arith, given-small (of (c .before .before .before .before .before .before .before)) (passed c))
+add-end : tie.Need-add-end
+add-end c = omega (arith, given-small (of (c .before .before .before .before .before .before .before)) (passed c))
 
 returns-2 : tie.Need-returns-2
 returns-2 c = let s = c .before .before .before .before .before .before .before .before in write-short (of s) (s .args .out .now) (passed (c .before)) (omega (arith, bytes-length (of s)))
 
 lay-out-requires : tie.Need-lay-out-requires
 lay-out-requires c κs = search needs
-
-add-t15 : tie.Need-add-t15
-add-t15 c = search needs
 
 same-length : tie.Need-same-length
 same-length c = search needs
@@ -67,9 +64,8 @@ write-study-spec =
     add-da
     add-dn
     add-dn-2
-    add-if1
+    add-end
     returns-2
     lay-out-requires
-    add-t15
     same-length
     returns-3)

@@ -3,8 +3,8 @@ use Prim.Native.Nat.{_/_, _<_}
 use native.Mathlib.Nat.{mod-lt}
 use native.Mathlib.Omega.{arith}
 use borrow.Author.Needs.{needs}
-use Rattle.try_fronts.proofs.cases.pick.Statement.{statement}
-use Rattle.try_fronts.proofs.cases.pick.Tie as tie
+use Rattle.trial.proofs.pick.Statement.{statement}
+use Rattle.trial.proofs.pick.Tie as tie
 
 returns : tie.Need-returns
 returns c = search needs

@@ -2,8 +2,8 @@
 use Prim.Native.Nat.{_-_, _≤_}
 use borrow.Author.Needs.{needs}
 use lib.ListN.{length}
-use Rattle.try_fronts.proofs.plain.equal.Statement.{statement}
-use Rattle.try_fronts.proofs.plain.equal.Tie as tie
+use Rattle.trial.proofs.equal.Statement.{statement}
+use Rattle.trial.proofs.equal.Tie as tie
 
 abbrev Inv-loop : tie.InvT-loop
 Inv-loop a b i₀ i = i ≤ length a

@@ -1,0 +1,71 @@
+// What the test programs share: numbers from a seed, bytes read and stored without a thought for
+// ends, comparison, and lines of output.
+use libc::STDOUT_FILENO;
+ghost use Prim.Native.Nat.{_≤_, _<_};
+
+fn next(x: u64) -> u64
+    ensures { λ r. ⌜ r < 2147483648 ⌝ }
+{
+    (x % 2147483648 * 1103515245 + 12345) % 2147483648
+}
+
+// A seed for each case.
+pub fn seed(i: u64) -> u64
+    ensures { λ r. ⌜ r < 2147483648 ⌝ }
+{
+    next(next(i % 1000000 * 2 + 1))
+}
+
+// A number from a seed, below n, for each use its own.
+pub fn pick(seed: u64, use_of: u64, n: u64) -> u64
+    ensures { λ r. ⌜ r ≤ n ⌝ }
+{
+    if n == 0 {
+        return 0;
+    }
+    next(next(seed % 2147483648 + use_of % 65536 * 7919)) / 64 % n
+}
+
+fn wide(x: u8) -> u64
+    ensures { λ r. ⌜ r < 256 ⌝ }
+{
+    x as u64
+}
+
+// The byte at a place, and 0 past the end.
+pub fn byte(bytes: &[u8], at: usize) -> u64
+    ensures { λ r. ⌜ r < 256 ⌝ }
+{
+    if at < bytes.len() {
+        return wide(bytes[at]);
+    }
+    0
+}
+
+// Stores a byte where the slice has that place.
+pub fn poke(bytes: &mut [u8], at: usize, value: u64) {
+    if at < bytes.len() {
+        bytes[at] = (value % 256) as u8;
+    }
+}
+
+pub fn equal(a: &[u8], b: &[u8]) -> bool {
+    if a.len() != b.len() {
+        return false;
+    }
+    let mut i = 0;
+    while i < a.len() {
+        if byte(a, i) != byte(b, i) {
+            return false;
+        }
+        i += 1;
+    }
+    true
+}
+
+// A line of output: a name and a number.
+pub fn line(name: &[u8], n: u64) {
+    io::write_all(STDOUT_FILENO, name);
+    io::print_decimal(STDOUT_FILENO, n);
+    io::write_all(STDOUT_FILENO, b"\n");
+}
