@@ -8,6 +8,7 @@ use Rattle.laws.specs.First.{firstTrue}
 use Rattle.answer.specs.declared.Refusal.{Refusal}
 use Rattle.answer.specs.declared.Written.{Written}
 use Rattle.answer.specs.declared.Done.{Done}
+use Rattle.answer.specs.declared.Header.{Header}
 use Rattle.answer.specs.declared.Opened.{Opened}
 use Rattle.answer.specs.declared.Refusal.the-variants as refusal
 use Rattle.answer.specs.declared.Written.the-variants as written-as
@@ -64,8 +65,11 @@ done done-as.Done = success (0 ∷ [])
 done (done-as.Refused r) = refused (numberOf r)
 
 -- "opening N, A, M, s, t, n1, n2"
+abbrev pub headerValues : Header → List ℕ
+headerValues h = h .nodes ∷ h .arcs ∷ h .rounds ∷ h .source ∷ h .target ∷ h .n1 ∷ h .n2 ∷ []
+
 abbrev pub opened : Opened → Outcome
-opened (opened-as.Study h) = success (h .nodes ∷ h .arcs ∷ h .rounds ∷ h .source ∷ h .target ∷ h .n1 ∷ h .n2 ∷ [])
+opened (opened-as.Study h) = success (headerValues h)
 opened (opened-as.Refused r) = refused (numberOf r)
 
 -- ---- deliver: bytes into a slice, or 15

@@ -1,10 +1,9 @@
 -- One more place of a scan: what the list from there on says, by its first element and the rest.
 use mathlib.Core.Path.{_≡_}
 use mathlib.Core.Bool.{Bool, true, false, _&&_}
-use mathlib.Core.List.{List, [], _∷_}
-use Prim.Native.Nat.{ℕ, _+_, _≤_, _<_}
+use mathlib.Core.List.{List}
+use Prim.Native.Nat.{ℕ, _+_, _<_}
 use native.Mathlib.Numerals.{add-one}
-use native.Mathlib.Omega.{arith}
 use borrow.Author.Tests.{ne-eqb}
 use lib.Dec.{eqb}
 use lib.ListN.{length, getD, drop}
@@ -17,14 +16,6 @@ count-next x l i h = rw (add-one i, drop-cons l i 0 h)
 
 pub count-end : (x : ℕ) (l : List ℕ) (i : ℕ) → i ≡ length l → count x (drop i l) ≡ 0
 count-end x l i e = rw (e, drop-length l)
-
-flag-le : (b : Bool) → flag b ≤ 1
-flag-le true = omega arith
-flag-le false = omega arith
-
-pub count-le : (x : ℕ) (l : List ℕ) → count x l ≤ length l
-count-le x [] = omega arith
-count-le x (y ∷ l) = omega (arith, flag-le (eqb y x), count-le x l)
 
 -- what the members from node v on say of an order
 abbrev pub standFrom : ℕ → List ℕ → List ℕ → ℕ → Bool

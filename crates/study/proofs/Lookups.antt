@@ -6,19 +6,21 @@ use Prim.Native.Nat.{ℕ, _+_, _-_, _*_, _/_, _≤_, _<_}
 use native.Mathlib.Nat.{mul-le-mul-right, suc-mul, le-of-eq}
 use native.Mathlib.Omega.{arith}
 use borrow.Author.Tests.{ltb-false, lt-leb, le-leb}
-use lib.Dec.{leb}
+use lib.Dec.{leb, ltb}
 use lib.ListN.{length, getD, take, drop}
 use lib.Seq.{drop-drop}
 use Rattle.laws.specs.Members.{_∈_, here, there}
 use Rattle.laws.specs.Parts.{part-part}
 use Rattle.answer.proofs.Outcomes.{outcome-tests, outcome-refused, outcome-passed, outcome-values}
-use Rattle.answer.specs.Outcome.{Outcome, success, refused}
+use Rattle.answer.specs.Outcome.{Outcome, success, refused, outcome}
+use Rattle.orders.specs.Order.{count}
 use Rattle.parts.proofs.Limits.{PartsFit, parts-fit, parts-within, piece-at}
 use Rattle.parts.specs.Study.{roundSize, WithinLimits}
-use Rattle.parts.specs.Tests.{badCounts, badEnds}
+use Rattle.parts.specs.Tests.{badCounts, badEnds, partTests}
 use Rattle.slices.specs.Bytes.{partAt}
-use Rattle.study.specs.Calls.{badRounds, badNumber, openTests, openValues, openAnswer, checkAnswer, whereGood, lookupPart}
+use Rattle.study.specs.Calls.{badRounds, trailerTests, badNumber, openTests, openValues, openAnswer, checkAnswer, whereGood, lookupPart}
 use Rattle.study.specs.File.{trailerAt, trailer, nodesOf, arcsOf, roundsOf, roundOf, studyOf}
+use Rattle.study.specs.declared.Trailer.{Trailer}
 use Rattle.study.proofs.Opens.{firstTests, nextTests}
 use Rattle.study.proofs.Trailers.{Fits, trailer-fits, nodes-length, arcs-length, rounds-length}
 
@@ -71,7 +73,7 @@ module _ (f w : List ℕ) (o : openAnswer f ≡ success w) where
   pub sum-small : getD w 5 0 + getD w 6 0 ≤ 128
   sum-small = omega (arith, ap (λ l. getD l 5 0) open-values, ap (λ l. getD l 6 0) open-values, open-parts .sizes)
 
-  pub round-small : (r : ℕ) → r < getD w 2 0 → r * (getD w 5 0 + getD w 6 0) ≤ 16777216
+  pub round-small : (r : ℕ) → r < getD w 2 0 → r * (getD w 5 0 + getD w 6 0) + (getD w 5 0 + getD w 6 0) ≤ 16777216
   round-small r h =
       let fits = open-fits in
       omega (arith, inside r (getD w 5 0 + getD w 6 0) (omega (arith, rounds-are)) (sym size-is), fits .dm-da, fits .da-dn, fits .dn-at, fits .short)
@@ -102,6 +104,16 @@ module _ (f w : List ℕ) (o : openAnswer f ≡ success w) where
   -- a round of the study is the part that lookup hands back
   pub study-round : (r : ℕ) → r < trailer f .rounds → getD (studyOf f .rounds) r [] ≡ lookupPart f r
   study-round r h = piece-at (trailer f .rounds) (roundSize (nodesOf f)) (roundsOf f) r h ∙ ap (λ (a : Outcome). whereGood a (roundOf f r)) (sym (check-good r (omega (arith, rounds-are))))
+
+-- opening looks at length, trailer, node and arc section alone
+openFrom : ℕ → Trailer → List ℕ → List ℕ → Outcome
+openFrom n h nodes arcs =
+    outcome (trailerTests n h ++ partTests (h .nodes) nodes arcs (h .source) (h .target) ++ (9, ltb (h .dm) (h .rounds * roundSize nodes)) ∷ [])
+    (h .nodes ∷ h .arcs ∷ h .rounds ∷ h .source ∷ h .target ∷ count 1 nodes ∷ count 2 nodes ∷ [])
+
+pub open-only : (f g : List ℕ) → length f ≡ length g → trailer f ≡ trailer g → nodesOf f ≡ nodesOf g → arcsOf f ≡ arcsOf g → openAnswer f ≡ openAnswer g
+unfolding openFrom
+open-only f g a b c d = ap₂ (λ n h. openFrom n h (nodesOf f) (arcsOf f)) a b ∙ ap₂ (openFrom (length g) (trailer g)) c d
 
 -- a file that does not open has no rounds
 pub check-refused : (f : List ℕ) (r n : ℕ) → openAnswer f ≡ refused n → checkAnswer f r ≡ refused n

@@ -1,9 +1,8 @@
 -- Opening in three stages: the trailer, nodes and arcs, the rounds.
-use mathlib.Core.Path.{_≡_, sym, ap, _∙_}
-use mathlib.Core.Bool.{Bool, true, false, cond}
+use mathlib.Core.Path.{_≡_, sym, _∙_}
+use mathlib.Core.Bool.{Bool, cond}
 use mathlib.Core.List.{List, [], _∷_, _++_}
-use Prim.Native.Nat.{ℕ, _+_, _*_, _≤_, _<_}
-use borrow.Author.Tests.{lt-ltb, le-ltb}
+use Prim.Native.Nat.{ℕ, _+_, _*_}
 use lib.Dec.{ltb}
 use lib.ListN.{length}
 use Rattle.answer.proofs.Outcomes.{outcome-tests, outcome-refused, outcome-passed}
@@ -41,17 +40,8 @@ module _ (f : List ℕ) where
   pub open-next : (n : ℕ) → outcome firstTests (0 ∷ []) ≡ success (0 ∷ []) → outcome nextTests (0 ∷ []) ≡ refused n → refused n ≡ openAnswer f
   open-next n e g = sym (outcome-refused (firstTests ++ nextTests) ((9, badRounds f) ∷ []) (0 ∷ []) (openValues f) n (both e ∙ g))
 
-  open-last : (b : Bool) → outcome firstTests (0 ∷ []) ≡ success (0 ∷ []) → outcome nextTests (0 ∷ []) ≡ success (0 ∷ []) → badRounds f ≡ b → openAnswer f ≡ cond b (refused 9) (success (openValues f))
-  open-last b e g q = outcome-passed (firstTests ++ nextTests) ((9, badRounds f) ∷ []) (0 ∷ []) (openValues f) (both e ∙ g) ∙ ap (λ t. cond t (refused 9) (success (openValues f))) q
-
   -- the last stage, by the numbers that the code has at hand
-  module _ (h : Trailer) (n1 n2 : ℕ) (eh : h ≡ trailer f) (e1 : n1 ≡ count 1 (nodesOf f)) (e2 : n2 ≡ count 2 (nodesOf f))
-      (e : outcome firstTests (0 ∷ []) ≡ success (0 ∷ [])) (g : outcome nextTests (0 ∷ []) ≡ success (0 ∷ [])) where
-    nine : ltb (h .dm) (h .rounds * (n1 + n2)) ≡ badRounds f
-    nine = rw (eh, e1, e2)
-
-    pub open-nine : h .dm < h .rounds * (n1 + n2) → refused 9 ≡ openAnswer f
-    open-nine k = sym (open-last true e g (sym nine ∙ lt-ltb (h .dm) (h .rounds * (n1 + n2)) k))
-
-    pub open-good : h .rounds * (n1 + n2) ≤ h .dm → success (h .nodes ∷ h .arcs ∷ h .rounds ∷ h .source ∷ h .target ∷ n1 ∷ n2 ∷ []) ≡ openAnswer f
-    open-good k = ap success (rw (eh, e1, e2)) ∙ sym (open-last false e g (sym nine ∙ le-ltb (h .dm) (h .rounds * (n1 + n2)) k))
+  pub open-third : (h : Trailer) (n1 n2 : ℕ) → h ≡ trailer f → n1 ≡ count 1 (nodesOf f) → n2 ≡ count 2 (nodesOf f)
+      → outcome firstTests (0 ∷ []) ≡ success (0 ∷ []) → outcome nextTests (0 ∷ []) ≡ success (0 ∷ [])
+      → openAnswer f ≡ cond (ltb (h .dm) (h .rounds * (n1 + n2))) (refused 9) (success (h .nodes ∷ h .arcs ∷ h .rounds ∷ h .source ∷ h .target ∷ n1 ∷ n2 ∷ []))
+  open-third h n1 n2 eh e1 e2 e g = outcome-passed (firstTests ++ nextTests) ((9, badRounds f) ∷ []) (0 ∷ []) (openValues f) (both e ∙ g) ∙ sym (rw (eh, e1, e2))

@@ -156,7 +156,7 @@ pub fn check_round(file: &[u8], round: usize) -> Done
 
 // The n bytes of a round, as far as the file has them.
 pub fn round_at(file: &[u8], n: usize, round: usize) -> &[u8]
-    requires { ⌜ round * n ≤ 16777216 ⌝ }
+    requires { ⌜ round * n + n ≤ 16777216 ⌝ }
     ensures { λ r. ⌜ now r ≡ partAt (trailerAt (now (file .entry)) - trailer (now (file .entry)) .dm + round * n) n (now (file .entry)) ⌝ }
 {
     let at = trailer_at(file);

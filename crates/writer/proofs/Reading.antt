@@ -20,7 +20,7 @@ use Rattle.parts.specs.Tests.{badCounts, partTests}
 use Rattle.slices.proofs.Words.{words-back, words-length}
 use Rattle.slices.specs.Bytes.{partAt, wordAt, wordsBytes}
 use Rattle.study.proofs.Lookups.{check-good, study-within, study-round}
-use Rattle.study.proofs.Opens.{firstTests, nextTests, open-good}
+use Rattle.study.proofs.Opens.{firstTests, nextTests, open-third}
 use Rattle.study.specs.Calls.{badLength, badSections, trailerTests, badOrders, openAnswer, lookupPart}
 use Rattle.study.specs.File.{trailerAt, trailer, nodesOf, arcsOf, roundsOf, studyOf}
 use Rattle.study.specs.declared.Trailer.{Trailer}
@@ -156,7 +156,8 @@ module _ (g : Given) (e : outcome (givenTests g) (0 ∷ []) ≡ success (0 ∷ [
 
   opens : openAnswer f ≡ success (n ∷ (a / 2) ∷ g .total ∷ g .source ∷ g .target ∷ count 1 (g .nodes) ∷ count 2 (g .nodes) ∷ [])
   opens =
-      sym (open-good f h (count 1 (g .nodes)) (count 2 (g .nodes)) (sym trailer-back) (ap (count 1) (sym nodes-back)) (ap (count 2) (sym nodes-back)) first-pass next-pass (le-of-eq (sym (good-length g e))))
+      open-third f h (count 1 (g .nodes)) (count 2 (g .nodes)) (sym trailer-back) (ap (count 1) (sym nodes-back)) (ap (count 2) (sym nodes-back)) first-pass next-pass
+      ∙ rw (le-ltb r (g .total * roundSize (g .nodes)) (le-of-eq (sym (good-length g e))))
 
   -- ---- rounds
   lookup-back : (i : ℕ) → i < g .total → lookupPart f i ≡ partAt (i * roundSize (g .nodes)) (roundSize (g .nodes)) (g .rounds)

@@ -37,7 +37,10 @@ loop-less : tie.Need-loop-less Inv-loop μ-loop
 loop-less c = search needs
 
 loop-again : tie.Need-loop-again Inv-loop μ-loop
-loop-again c = let x = c .before .before .before .before .before .before .args in let l = c .before .before .before .before .loop in (omega arith, omega arith, omega (arith, count-next (x .x) (x .bytes .now) (l .i) (omega arith)))
+loop-again c =
+    let x = c .before .before .before .before .before .before .args in
+    let l = c .before .before .before .before .loop in
+    (omega arith, omega arith, omega (arith, count-next (x .x) (x .bytes .now) (l .i) (omega arith)))
 
 returns : tie.Need-returns Inv-loop μ-loop
 returns c = let x = c .before .before .before .args in let l = c .before .loop in omega (arith, count-end (x .x) (x .bytes .now) (l .i) (omega arith))

@@ -41,10 +41,16 @@ loop-less : tie.Need-loop-less Inv-loop μ-loop
 loop-less c = search needs
 
 loop-again : tie.Need-loop-again Inv-loop μ-loop
-loop-again c = let a = c .before .before .before .before .args in let l = c .before .before .before .loop in (omega arith, l .inv .1 ∙ arc-next (badArc (a .n)) (l .bad) (a .arcs .now) (l .i) (omega arith))
+loop-again c =
+    let a = c .before .before .before .before .args in
+    let l = c .before .before .before .loop in
+    (omega arith, l .inv .1 ∙ arc-next (badArc (a .n)) (l .bad) (a .arcs .now) (l .i) (omega arith))
 
 returns : tie.Need-returns Inv-loop μ-loop
-returns c = let a = c .before .before .args in let l = c .before .loop in sym (l .inv .1 ∙ arc-end (badArc (a .n)) (l .bad) (a .arcs .now) (l .i) (omega arith))
+returns c =
+    let a = c .before .before .args in
+    let l = c .before .loop in
+    sym (l .inv .1 ∙ arc-end (badArc (a .n)) (l .bad) (a .arcs .now) (l .i) (omega arith))
 
 pub bad-arcs-spec : {M : Type 1} → statement M
 bad-arcs-spec =

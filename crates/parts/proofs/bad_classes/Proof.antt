@@ -31,7 +31,9 @@ loop-less : tie.Need-loop-less Inv-loop μ-loop
 loop-less c = search needs
 
 loop-again : tie.Need-loop-again Inv-loop μ-loop
-loop-again c = let l = c .before .before .loop in (omega arith, l .inv .1 ∙ any-next (ltb 2) (l .bad) (c .before .before .before .args .nodes .now) (l .v) (omega arith))
+loop-again c =
+    let l = c .before .before .loop in
+    (omega arith, l .inv .1 ∙ any-next (ltb 2) (l .bad) (c .before .before .before .args .nodes .now) (l .v) (omega arith))
 
 returns : tie.Need-returns Inv-loop μ-loop
 returns c = let l = c .before .loop in sym (l .inv .1 ∙ any-end (ltb 2) (l .bad) (c .before .before .args .nodes .now) (l .v) (omega arith))

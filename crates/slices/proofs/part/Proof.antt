@@ -19,7 +19,9 @@ part-result-end : tie.Need-part-result-end
 part-result-end c = search needs
 
 returns : tie.Need-returns
-returns c = let a = c .before .before .args in sym (ap (take (a .count)) (drop-of-length-le (a .bytes .now) {i = a .at} (omega arith)) ∙ take-nil (a .count))
+returns c =
+    let a = c .before .before .args in
+    sym (ap (take (a .count)) (drop-of-length-le (a .bytes .now) {i = a .at} (omega arith)) ∙ take-nil (a .count))
 
 sub-if2 : tie.Need-sub-if2
 sub-if2 c = search needs
@@ -37,7 +39,10 @@ part-result-end-2 : tie.Need-part-result-end-2
 part-result-end-2 c = search needs
 
 returns-2 : tie.Need-returns-2
-returns-2 c = let a = c .before .before .before .args in let e : a .at + a .count - a .at ≡ a .count = omega arith in ap (λ n. take n (drop (a .at) (a .bytes .now))) e
+returns-2 c =
+    let a = c .before .before .before .args in
+    let e : a .at + a .count - a .at ≡ a .count = omega arith in
+    ap (λ n. take n (drop (a .at) (a .bytes .now))) e
 
 sub-result-3 : tie.Need-sub-result-3
 sub-result-3 c = search needs
@@ -49,7 +54,9 @@ part-result-end-3 : tie.Need-part-result-end-3
 part-result-end-3 c = search needs
 
 returns-3 : tie.Need-returns-3
-returns-3 c = let a = c .before .before .before .args in tail-part (a .bytes .now) (a .at) ∙ sym (take-all (a .count) (drop (a .at) (a .bytes .now)) (omega (arith, length-drop (a .at) (a .bytes .now))))
+returns-3 c =
+    let a = c .before .before .before .args in
+    tail-part (a .bytes .now) (a .at) ∙ sym (take-all (a .count) (drop (a .at) (a .bytes .now)) (omega (arith, length-drop (a .at) (a .bytes .now))))
 
 pub part-spec : {M : Type 1} → statement M
 part-spec =

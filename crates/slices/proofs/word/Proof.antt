@@ -55,7 +55,11 @@ add-result : tie.Need-add-result
 add-result c = search needs
 
 returns : tie.Need-returns
-returns c = let a = c .before .before .before .before .before .before .before .before .before .before .args in let p = c .before .before .before .before .before .before .before .before .part in let g : (j : ℕ) → getD (p .result .now) j 0 ≡ getD (partAt (a .at) 4 (a .bytes .now)) j 0 = λ j. ap (λ b. getD b j 0) (p .ensures) in omega (arith, word-part (a .at) (a .bytes .now), g 0, g 1, g 2, g 3)
+returns c =
+    let a = c .before .before .before .before .before .before .before .before .before .before .args in
+    let p = c .before .before .before .before .before .before .before .before .part in
+    let g : (j : ℕ) → getD (p .result .now) j 0 ≡ getD (partAt (a .at) 4 (a .bytes .now)) j 0 = λ j. ap (λ b. getD b j 0) (p .ensures) in
+    omega (arith, word-part (a .at) (a .bytes .now), g 0, g 1, g 2, g 3)
 
 pub word-spec : {M : Type 1} → statement M
 word-spec =

@@ -31,7 +31,10 @@ part-requires : tie.Need-part-requires
 part-requires c κs = search needs
 
 returns : tie.Need-returns
-returns c = let f = c .before .before .before .before .before .before .args .file .now in let t = c .before .before .before .before .trailer-at .ensures .0 in c .part .ensures ∙ ap₂ (λ at n. partAt at n f) (c .before .before .less .ensures ∙ ap₂ _-_ t (c .before .before .before .word .ensures .0 ∙ ap (λ at. wordAt (at + 24) f) t)) (ap (λ n. 2 * n) (c .before .word2 .ensures .0 ∙ ap (λ at. wordAt (at + 4) f) t))
+returns c =
+    let f = c .before .before .before .before .before .before .args .file .now in
+    let t = c .before .before .before .before .trailer-at .ensures .0 in
+    c .part .ensures ∙ ap₂ (λ at n. partAt at n f) (c .before .before .less .ensures ∙ ap₂ _-_ t (c .before .before .before .word .ensures .0 ∙ ap (λ at. wordAt (at + 24) f) t)) (ap (λ n. 2 * n) (c .before .word2 .ensures .0 ∙ ap (λ at. wordAt (at + 4) f) t))
 
 pub arc-bytes-spec : {M : Type 1} → statement M
 arc-bytes-spec =

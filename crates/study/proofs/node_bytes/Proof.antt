@@ -25,7 +25,10 @@ part-requires : tie.Need-part-requires
 part-requires c κs = search needs
 
 returns : tie.Need-returns
-returns c = let f = c .before .before .before .before .before .before .args .file .now in let t = c .before .before .before .before .trailer-at .ensures .0 in c .part .ensures ∙ ap₂ (λ at n. partAt at n f) (c .before .before .less .ensures ∙ ap₂ _-_ t (c .before .before .before .word .ensures .0 ∙ ap (λ at. wordAt (at + 20) f) t)) (c .before .word2 .ensures .0 ∙ ap (λ at. wordAt at f) t)
+returns c =
+    let f = c .before .before .before .before .before .before .args .file .now in
+    let t = c .before .before .before .before .trailer-at .ensures .0 in
+    c .part .ensures ∙ ap₂ (λ at n. partAt at n f) (c .before .before .less .ensures ∙ ap₂ _-_ t (c .before .before .before .word .ensures .0 ∙ ap (λ at. wordAt (at + 20) f) t)) (c .before .word2 .ensures .0 ∙ ap (λ at. wordAt at f) t)
 
 pub node-bytes-spec : {M : Type 1} → statement M
 node-bytes-spec =

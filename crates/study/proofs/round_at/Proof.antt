@@ -28,7 +28,11 @@ part-requires : tie.Need-part-requires
 part-requires c κs = search needs
 
 returns : tie.Need-returns
-returns c = let a = c .before .before .before .before .before .args in let f = a .file .now in let t = c .before .before .before .trailer-at .ensures .0 in c .part .ensures ∙ ap (λ at. partAt (at + a .round * a .n) (a .n) f) (c .before .less .ensures ∙ ap₂ _-_ t (c .before .before .word .ensures .0 ∙ ap (λ at. wordAt (at + 28) f) t))
+returns c =
+    let a = c .before .before .before .before .before .args in
+    let f = a .file .now in
+    let t = c .before .before .before .trailer-at .ensures .0 in
+    c .part .ensures ∙ ap (λ at. partAt (at + a .round * a .n) (a .n) f) (c .before .less .ensures ∙ ap₂ _-_ t (c .before .before .word .ensures .0 ∙ ap (λ at. wordAt (at + 28) f) t))
 
 pub round-at-spec : {M : Type 1} → statement M
 round-at-spec =

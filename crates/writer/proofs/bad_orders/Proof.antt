@@ -41,7 +41,9 @@ part-requires : tie.Need-part-requires Inv-loop μ-loop
 part-requires c κs = search needs
 
 is-round-requires : tie.Need-is-round-requires Inv-loop μ-loop
-is-round-requires c κs = let a = c .before .before .before .before .before .args in omega (arith, ap length (c .part .ensures), length-take (a .n) (drop (c .before .before .loop .r * a .n) (a .bytes .now)))
+is-round-requires c κs =
+    let a = c .before .before .before .before .before .args in
+    omega (arith, ap length (c .part .ensures), length-take (a .n) (drop (c .before .before .loop .r * a .n) (a .bytes .now)))
 
 returns : tie.Need-returns Inv-loop μ-loop
 returns c = rw (turn (c .before), not-true (c .before .is-round .result) (c .if1 .taken))
@@ -56,7 +58,12 @@ loop-again : tie.Need-loop-again Inv-loop μ-loop
 loop-again c = (omega arith, turn (c .before) ∙ rw (not-false (c .before .is-round .result) (c .if1 .left)))
 
 returns-2 : tie.Need-returns-2 Inv-loop μ-loop
-returns-2 c = let a = c .before .before .before .before .args in let l = c .before .loop in let e : l .r ≡ a .rounds = omega arith in let good = isRound (a .nodes .now) in rw (l .inv .1 ∙ ap (goodFrom good (a .rounds) (a .n) (a .bytes .now)) e ∙ good-end good (a .rounds) (a .n) (a .bytes .now))
+returns-2 c =
+    let a = c .before .before .before .before .args in
+    let l = c .before .loop in
+    let e : l .r ≡ a .rounds = omega arith in
+    let good = isRound (a .nodes .now) in
+    rw (l .inv .1 ∙ ap (goodFrom good (a .rounds) (a .n) (a .bytes .now)) e ∙ good-end good (a .rounds) (a .n) (a .bytes .now))
 
 pub bad-orders-spec : {M : Type 1} → statement M
 bad-orders-spec =

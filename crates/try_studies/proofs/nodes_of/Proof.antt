@@ -1,0 +1,48 @@
+-- The loop of `nodes_of` goes up to the number of nodes of the class. The array keeps its length.
+use mathlib.Core.Path.{_≡_}
+use Prim.Native.Nat.{_-_, _≤_}
+use borrow.Author.Needs.{needs}
+use lib.ListN.{length}
+use Rattle.try_studies.proofs.nodes_of.Statement.{statement}
+use Rattle.try_studies.proofs.nodes_of.Tie as tie
+
+abbrev Inv-loop : tie.InvT-loop
+Inv-loop class k nodes₀ v₀ nodes v = (v ≤ k) × (length nodes ≡ 161)
+
+abbrev μ-loop : tie.MeasureT-loop
+μ-loop class k nodes₀ v₀ nodes v = k - v
+
+loop-holds : tie.Need-loop-holds Inv-loop μ-loop
+loop-holds c = search needs
+
+add-nodes : tie.Need-add-nodes Inv-loop μ-loop
+add-nodes c = search needs
+
+array-write-nodes : tie.Need-array-write-nodes Inv-loop μ-loop
+array-write-nodes c = search needs
+
+add-v : tie.Need-add-v Inv-loop μ-loop
+add-v c = search needs
+
+loop-less : tie.Need-loop-less Inv-loop μ-loop
+loop-less c = search needs
+
+loop-again : tie.Need-loop-again Inv-loop μ-loop
+loop-again c = search needs
+
+returns : tie.Need-returns Inv-loop μ-loop
+returns c = search needs
+
+pub nodes-of-spec : {M : Type 1} → statement M
+nodes-of-spec =
+    tie.close
+    (tie.spec
+    Inv-loop
+    μ-loop
+    loop-holds
+    add-nodes
+    array-write-nodes
+    add-v
+    loop-less
+    loop-again
+    returns)
