@@ -11,7 +11,7 @@ ghost use mathlib.Core.List.{[], _∷_};
 ghost use Prim.Native.Nat.{_+_, _-_, _*_, _≤_};
 ghost use lib.ListN.{length};
 ghost use Rattle.answer.specs.Outcome.{done, opened, outcome};
-ghost use Rattle.slices.specs.Bytes.{partAt};
+ghost use Rattle.slices.specs.Bytes.{partAt, wordAt};
 ghost use Rattle.study.specs.File.{trailerAt, trailer, nodesOf, arcsOf};
 ghost use Rattle.study.specs.Calls.{badSections, trailerTests, openAnswer, checkAnswer, lookupPart};
 
@@ -58,20 +58,27 @@ fn read_trailer(file: &[u8]) -> Trailer
     }
 }
 
+// Where a section begins whose distance stands at this place of the trailer.
+fn section_at(file: &[u8], place: usize) -> usize
+    requires { ⌜ place ≤ 28 ⌝ }
+    ensures { λ r. ⌜ (r ≡ trailerAt (now (file .entry)) - wordAt (trailerAt (now (file .entry)) + place) (now (file .entry))) × (r ≤ length (now (file .entry))) ⌝ }
+{
+    let at = trailer_at(file);
+    less(at, word(file, at + place))
+}
+
 // The bytes of the node section, as far as the file has them.
 pub fn node_bytes(file: &[u8]) -> &[u8]
     ensures { λ r. ⌜ now r ≡ nodesOf (now (file .entry)) ⌝ }
 {
-    let at = trailer_at(file);
-    part(file, less(at, word(file, at + 20)), word(file, at))
+    part(file, section_at(file, 20), word(file, trailer_at(file)))
 }
 
 // The bytes of the arc section, as far as the file has them.
 pub fn arc_bytes(file: &[u8]) -> &[u8]
     ensures { λ r. ⌜ now r ≡ arcsOf (now (file .entry)) ⌝ }
 {
-    let at = trailer_at(file);
-    part(file, less(at, word(file, at + 24)), 2 * word(file, at + 4))
+    part(file, section_at(file, 24), 2 * word(file, trailer_at(file) + 4))
 }
 
 // Number 4: the sections stand one behind the other in front of the trailer, and have room.
@@ -159,8 +166,7 @@ pub fn round_at(file: &[u8], n: usize, round: usize) -> &[u8]
     requires { ⌜ round * n + n ≤ 16777216 ⌝ }
     ensures { λ r. ⌜ now r ≡ partAt (trailerAt (now (file .entry)) - trailer (now (file .entry)) .dm + round * n) n (now (file .entry)) ⌝ }
 {
-    let at = trailer_at(file);
-    part(file, less(at, word(file, at + 28)) + round * n, n)
+    part(file, section_at(file, 28) + round * n, n)
 }
 
 // Lookup: the round's bytes, a part of the caller's file; an empty part where the check refuses.
