@@ -78,7 +78,11 @@ pub fn node_bytes(file: &[u8]) -> &[u8]
 pub fn arc_bytes(file: &[u8]) -> &[u8]
     ensures { λ r. ⌜ now r ≡ arcsOf (now (file .entry)) ⌝ }
 {
-    part(file, section_at(file, 24), 2 * word(file, trailer_at(file) + 4))
+    part(
+        file,
+        section_at(file, 24),
+        2 * word(file, trailer_at(file) + 4),
+    )
 }
 
 // Number 4: the sections stand one behind the other in front of the trailer, and have room.
