@@ -1,13 +1,13 @@
 -- The members of a list: tests that some or all of them pass, and the list of those that pass one.
-use mathlib.Core.Path.{_≡_, refl, sym, ap, _∙_, subst}
+use mathlib.Core.Path.{_≡_, refl, sym, ap, ap₂, _∙_, subst}
 use mathlib.Core.Logic.{_↔_, inl, inr, ⊎-elim}
-use mathlib.Core.Bool.{Bool, true, false, _&&_, _||_, cond, or-assoc}
-use mathlib.Core.List.{List, [], _∷_, _++_, List·Memᴰ, List·Memᴰ·head, List·Memᴰ·tail}
-use Prim.Native.Nat.{ℕ, zero, suc, _<_}
+use mathlib.Core.Bool.{Bool, true, false, not, _&&_, _||_, cond, or-assoc}
+use mathlib.Core.List.{List, [], _∷_, _++_, map, List·Memᴰ, List·Memᴰ·head, List·Memᴰ·tail, List·Memᴰ·append-cases, Memᴰ·append-left, Memᴰ·append-right, Memᴰ·cast}
+use Prim.Native.Nat.{ℕ, zero, suc, _≤_, _<_}
 use native.Mathlib.Omega.{arith}
-use lib.Dec.{T}
+use lib.Dec.{T, eqb, eqb→eq, eqb-refl}
 use lib.ListN.{length, getD}
-use Rattle.laws.specs.Tests.{T-and, T-or}
+use Rattle.laws.specs.Tests.{T-and, T-or, T-not}
 
 module _ {A : Type 0} where
   infix 4 _∈_
@@ -87,3 +87,70 @@ module _ {A : Type 0} where
   pub keep-same : (f g : A → Bool) (l : List A) → ((x : A) → x ∈ l → f x ≡ g x) → keep f l ≡ keep g l
   keep-same f g [] h = refl
   keep-same f g (x ∷ xs) h = rw (h x here, keep-same f g xs (λ y m. h y (there m)))
+
+  pub keep-length : (f : A → Bool) (l : List A) → length (keep f l) ≤ length l
+  keep-length f [] = omega arith
+  keep-length f (x ∷ xs) = go (f x) (keep-length f xs)
+    where
+      go : (b : Bool) → length (keep f xs) ≤ length xs → length (cond b (x ∷ keep f xs) (keep f xs)) ≤ suc (length xs)
+      go true h = omega arith
+      go false h = omega arith
+
+  -- a member that does not pass is left out
+  pub keep-fewer : (f : A → Bool) {x : A} {l : List A} → x ∈ l → (T (f x) → ⊥) → length (keep f l) < length l
+  keep-fewer f (List·Memᴰ·head {x = y} {xs = ys} e) d = go (f y) (subst (λ z. T (f z) → ⊥) e d) (keep-length f ys)
+    where
+      go : (b : Bool) → (T b → ⊥) → length (keep f ys) ≤ length ys → length (cond b (y ∷ keep f ys) (keep f ys)) < suc (length ys)
+      go true n h = absurd (n tt)
+      go false n h = omega arith
+  keep-fewer f (List·Memᴰ·tail {x = y} {xs = ys} m) d = go (f y) (keep-fewer f m d)
+    where
+      go : (b : Bool) → length (keep f ys) < length ys → length (cond b (y ∷ keep f ys) (keep f ys)) < suc (length ys)
+      go true h = omega arith
+      go false h = omega arith
+
+  pub in-length : {x : A} {l : List A} → x ∈ l → 0 < length l
+  in-length (List·Memᴰ·head e) = omega arith
+  in-length (List·Memᴰ·tail m) = omega arith
+
+-- two functions that agree on the members
+pub map-same : {A B : Type 0} (f g : A → B) (l : List A) → ((x : A) → x ∈ l → f x ≡ g x) → map f l ≡ map g l
+map-same f g [] h = refl
+map-same f g (x ∷ l) h = ap₂ _∷_ (h x here) (map-same f g l (λ y m. h y (there m)))
+
+-- ---- the lists that f gives for the members, one after another
+module _ {A B : Type 0} (f : A → List B) where
+  abbrev pub each : List A → List B
+  each [] = []
+  each (x ∷ xs) = f x ++ each xs
+
+  pub each-out : (l : List A) {y : B} → y ∈ each l → (x : A) × (x ∈ l) × (y ∈ f x)
+  each-out (x ∷ xs) h = ⊎-elim (λ k. (x, here, k)) (λ k. let r = each-out xs k in (r .0, there (r .1), r .2)) (List·Memᴰ·append-cases (f x) h)
+  each-out [] h = elim h [ ]
+
+  pub each-in : {l : List A} {x : A} {y : B} → x ∈ l → y ∈ f x → y ∈ each l
+  each-in {y = y} (List·Memᴰ·head {x = z} {xs = zs} e) h = Memᴰ·append-left (each zs) (subst (λ w. y ∈ f w) e h)
+  each-in (List·Memᴰ·tail {x = z} m) h = Memᴰ·append-right (f z) (each-in m h)
+
+-- ---- lists of numbers
+abbrev pub member : ℕ → List ℕ → Bool
+member x l = any (eqb x) l
+
+pub member-out : (x : ℕ) (l : List ℕ) → T (member x l) → x ∈ l
+member-out x l t = let r = any-out (eqb x) l t in Memᴰ·cast (eqb→eq x (r .0) (r .2)) (r .1)
+
+pub member-in : {x : ℕ} {l : List ℕ} → x ∈ l → T (member x l)
+member-in {x} m = any-in (eqb x) m (eqb-refl x)
+
+-- the list without x
+abbrev pub without : ℕ → List ℕ → List ℕ
+without x l = keep (λ y. not (eqb x y)) l
+
+pub without-out : (x : ℕ) (l : List ℕ) {y : ℕ} → y ∈ without x l → (y ∈ l) × (x ≡ y → ⊥)
+without-out x l {y} m = let r = keep-out (λ z. not (eqb x z)) l m in (r .0, λ e. T-not (eqb x y) .0 (r .1) (subst (λ z. T (eqb x z)) e (eqb-refl x)))
+
+pub without-in : (x : ℕ) {l : List ℕ} {y : ℕ} → y ∈ l → (x ≡ y → ⊥) → y ∈ without x l
+without-in x {l} {y} m d = keep-in (λ z. not (eqb x z)) m (T-not (eqb x y) .1 (λ t. d (eqb→eq x y t)))
+
+pub without-length : {x : ℕ} {l : List ℕ} → x ∈ l → length (without x l) < length l
+without-length {x} m = keep-fewer (λ y. not (eqb x y)) m (λ t. T-not (eqb x x) .0 t (eqb-refl x))

@@ -1,9 +1,9 @@
--- Parts of lists: two elements stored or read side by side.
-use mathlib.Core.Path.{_≡_, sym, ap, _∙_}
+-- Parts of lists: two elements stored or read side by side, and parts of parts.
+use mathlib.Core.Path.{_≡_, refl, sym, ap, _∙_}
 use mathlib.Core.List.{List, [], _∷_, _++_}
 use Prim.Native.Nat.{ℕ, zero, suc, _+_, _-_, _≤_, _<_}
 use native.Mathlib.Omega.{arith}
-use lib.ListN.{length, getD, set, take, drop, length-append, length-drop}
+use lib.ListN.{length, getD, set, take, drop, replicate, length-append, length-drop}
 use lib.Seq.{set-at, drop-cons, append-snoc, take-all, take-nil, take-take}
 
 module _ {A : Type 0} where
@@ -23,6 +23,12 @@ module _ {A : Type 0} where
   -- a part that reaches to the end
   pub tail-part : (l : List A) (n : ℕ) → take (length l - n) (drop n l) ≡ drop n l
   tail-part l n = take-all (length l - n) (drop n l) (omega (arith, length-drop n l))
+
+  -- a list of one element, n times
+  pub getD-same : (n i : ℕ) (a : A) → getD (replicate n a) i a ≡ a
+  getD-same zero i a = refl
+  getD-same (suc n) zero a = refl
+  getD-same (suc n) (suc i) a = getD-same n i a
 
   -- a part of a part
   pub part-part : (l : List A) (at n m : ℕ) → at + n ≤ m → take n (drop at (take m l)) ≡ take n (drop at l)

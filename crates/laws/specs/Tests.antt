@@ -1,7 +1,7 @@
 -- Tests: what a Bool that was computed says. `T b` is the fact that b is true.
 use mathlib.Core.Path.{_≡_, refl}
 use mathlib.Core.Logic.{_↔_, _⊎_, inl, inr, ⊎-elim}
-use mathlib.Core.Bool.{Bool, true, false, _&&_, _||_, true≢false, false≢true}
+use mathlib.Core.Bool.{Bool, true, false, not, _&&_, _||_, true≢false, false≢true}
 use Prim.Native.Nat.{ℕ, _≤_, _<_}
 use native.Mathlib.Decide.{decLe}
 use native.Mathlib.Omega.{arith}
@@ -26,6 +26,10 @@ pub T-or : (a b : Bool) → T (a || b) ↔ (T a ⊎ T b)
 T-or true b = (λ t. inl tt, λ k. tt)
 T-or false b = (λ t. inr t, ⊎-elim (λ t. absurd t) (λ t. t))
 
+pub T-not : (a : Bool) → T (not a) ↔ (T a → ⊥)
+T-not true = (λ t _. t, λ k. k tt)
+T-not false = (λ _ t. t, λ _. tt)
+
 -- what a failed "or" and a passed "and" say of their two tests
 pub or-none : (a b : Bool) → (a || b) ≡ false → (a ≡ false) × (b ≡ false)
 or-none true b e = absurd (true≢false e)
@@ -46,3 +50,6 @@ order a b = go (decLe a b)
     go : Dec (a ≤ b) → (a ≤ b) ⊎ (b < a)
     go (yes h) = inl h
     go (no h) = inr (omega arith)
+
+pub equal : (a b : ℕ) → (a ≡ b) ⊎ (a ≡ b → ⊥)
+equal a b = ⊎-elim (λ h. ⊎-elim (λ k. inl (omega arith)) (λ k. inr (λ e. omega arith)) (order b a)) (λ h. inr (λ e. omega arith)) (order a b)

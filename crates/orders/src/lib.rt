@@ -1,10 +1,10 @@
 // The orders in which the nodes of a class fail, and the test of number 11.
 use slices::wide;
 ghost use mathlib.Core.Path.{_≡_};
-ghost use Prim.Native.Nat.{_≤_};
+ghost use Prim.Native.Nat.{ℕ, _≤_, _<_};
 ghost use lib.Dec.{eqb};
-ghost use lib.ListN.{length};
-ghost use Rattle.orders.specs.Order.{flag, count, isOrder, isRound};
+ghost use lib.ListN.{length, getD};
+ghost use Rattle.orders.specs.Order.{flag, count, isOrder, isRound, position};
 
 // 1 where the two are the same, else 0.
 fn same(x: u8, y: u8) -> u8
@@ -65,4 +65,21 @@ pub fn is_round(nodes: &[u8], round: &[u8]) -> bool
         return false;
     }
     is_order(nodes, 1, &round[0..n1]) & is_order(nodes, 2, &round[n1..])
+}
+
+// Each node's position: its place in the order, counted from 1, and one past the last where it does
+// not stand in it. Filled from the last place to the first.
+pub fn positions(order: &[u8]) -> [u8; 160]
+    requires { ⌜ (length (now order) ≤ 64) × ((k : ℕ) → k < length (now order) → getD (now order) k 0 < 160) ⌝ }
+    ensures { λ r. ⌜ (length r ≡ 160) × ((v : ℕ) → v < 160 → getD r v 0 ≡ position v (now (order .entry))) ⌝ }
+{
+    let mut k = order.len();
+    let past = k as u8 + 1;
+    let mut place = [past; 160];
+    while 0 < k {
+        let j = k - 1;
+        place[wide(order[j])] = k as u8;
+        k = j;
+    }
+    place
 }

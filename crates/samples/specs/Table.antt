@@ -9,6 +9,7 @@ use Rattle.study.specs.File.{trailer}
 use Rattle.study.specs.Calls.{badOrders, openAnswer, checkAnswer, lookupPart}
 use Rattle.writer.specs.Writer.{Given, given, studyBytes, writeAnswer}
 use Rattle.record.specs.Record.{isRecord, recordHolds}
+use Rattle.search.specs.Search.{searchAnswer, searchOut}
 use Rattle.compose.specs.Compose.{seriesAnswer, seriesOut, parallelAnswer, parallelOut}
 
 -- "Nodes 0 to 5 of classes 0, 0, 1, 1, 2, 2; s 0, t 1; arcs 0 2, 2 4, 4 1, 0 3, 3 1, 0 5, 5 1", with one round
@@ -20,6 +21,13 @@ abbrev pub ringFile : List ℕ
 ringFile =
     0 ∷ 0 ∷ 1 ∷ 1 ∷ 2 ∷ 2 ∷ 0 ∷ 2 ∷ 2 ∷ 4 ∷ 4 ∷ 1 ∷ 0 ∷ 3 ∷ 3 ∷ 1 ∷ 0 ∷ 5 ∷ 5 ∷ 1 ∷ 3 ∷ 2 ∷ 5 ∷ 4 ∷ 6 ∷ 0 ∷ 0 ∷ 0 ∷ 7 ∷ 0 ∷ 0 ∷ 0 ∷ 1 ∷ 0 ∷ 0 ∷ 0 ∷ 0 ∷ 0 ∷ 0 ∷ 0 ∷ 1 ∷ 0 ∷ 0 ∷ 0
     ∷ 24 ∷ 0 ∷ 0 ∷ 0 ∷ 18 ∷ 0 ∷ 0 ∷ 0 ∷ 4 ∷ 0 ∷ 0 ∷ 0 ∷ []
+
+-- the ring without arcs, and two nodes of class 0 with an arc between them
+abbrev pub noArcs : List ℕ
+noArcs = studyBytes (given (0 ∷ 0 ∷ 1 ∷ 1 ∷ 2 ∷ 2 ∷ []) [] (3 ∷ 2 ∷ 5 ∷ 4 ∷ []) 0 1 1)
+
+abbrev pub oneArc : List ℕ
+oneArc = studyBytes (given (0 ∷ 0 ∷ []) (0 ∷ 1 ∷ []) [] 0 1 1)
 
 -- the ring's record, the record that R3 and R4 join it with, and an empty front
 abbrev pub ring : List ℕ
@@ -50,7 +58,11 @@ pub record Table : Type 0 where
   pub r1-short : writeAnswer (ringWith (3 ∷ 2 ∷ 5 ∷ 4 ∷ [])) 55 ≡ refused 15
   -- R9 round 3 3 5 4: 11
   pub r9 : writeAnswer (ringWith (3 ∷ 3 ∷ 5 ∷ 4 ∷ [])) 56 ≡ refused 11
-  -- R2: the record holds at (2, 0), not at (2, 1)
+  -- R2 front record: 2 2 3 3 1 2 2 1 3. It holds at (2, 0), not at (2, 1)
+  pub r2-answer : searchAnswer ringFile 0 10 ≡ success (9 ∷ [])
+  pub r2-out : searchOut ringFile 0 ten ≡ 2 ∷ 2 ∷ 3 ∷ 3 ∷ 1 ∷ 2 ∷ 2 ∷ 1 ∷ 3 ∷ 9 ∷ []
+  pub r2-ten : searchAnswer ringFile 1 0 ≡ refused 10
+  pub r2-short : searchAnswer ringFile 0 8 ≡ refused 15
   pub r2-record : isRecord ring ≡ true
   pub r2-holds : recordHolds ring 2 0 ≡ true
   pub r2-fails : recordHolds ring 2 1 ≡ false
@@ -63,6 +75,10 @@ pub record Table : Type 0 where
   -- R5 row with an empty front: empty; side: R2
   pub r5-row : seriesOut ring empty ten ≡ 2 ∷ 2 ∷ 0 ∷ 9 ∷ 9 ∷ 9 ∷ 9 ∷ 9 ∷ 9 ∷ 9 ∷ []
   pub r5-side : parallelOut ring empty ten ≡ 2 ∷ 2 ∷ 3 ∷ 3 ∷ 1 ∷ 2 ∷ 2 ∷ 1 ∷ 3 ∷ 9 ∷ []
+  -- R10 no arcs: record 2 2 0
+  pub r10 : searchOut noArcs 0 ten ≡ 2 ∷ 2 ∷ 0 ∷ 9 ∷ 9 ∷ 9 ∷ 9 ∷ 9 ∷ 9 ∷ 9 ∷ []
+  -- R12 n1 = n2 = 0 and arc 0 1: record 0 0 1 1 1
+  pub r12 : searchOut oneArc 0 ten ≡ 0 ∷ 0 ∷ 1 ∷ 1 ∷ 1 ∷ 9 ∷ 9 ∷ 9 ∷ 9 ∷ 9 ∷ []
   -- the numbers: 12 before 13, 13 before 15, 15 last; p1 may be n1 + 1 and no more; no spare byte
   pub n12 : seriesAnswer (1 ∷ 1 ∷ 0 ∷ 0 ∷ []) ring 0 ≡ refused 12
   pub n13 : seriesAnswer (1 ∷ 1 ∷ 0 ∷ []) ring 0 ≡ refused 13
@@ -89,6 +105,10 @@ table =
       r1-ten = refl;
       r1-short = refl;
       r9 = refl;
+      r2-answer = refl;
+      r2-out = refl;
+      r2-ten = refl;
+      r2-short = refl;
       r2-record = refl;
       r2-holds = refl;
       r2-fails = refl;
@@ -98,6 +118,8 @@ table =
       r4-out = refl;
       r5-row = refl;
       r5-side = refl;
+      r10 = refl;
+      r12 = refl;
       n12 = refl;
       n13 = refl;
       n15 = refl;

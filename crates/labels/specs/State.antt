@@ -1,0 +1,164 @@
+-- The search's state: what it is given, the chains of arcs, and the labels while they spread.
+use mathlib.Core.Path.{_≡_}
+use mathlib.Core.List.{List, [], _∷_}
+use Prim.Native.Nat.{ℕ, suc, _+_, _-_, _*_, _/_, _≤_, _<_, min, max}
+use lib.ListN.{length, getD}
+use Rattle.front.specs.Pair.{pairOf}
+use Rattle.parts.specs.Study.{arcsFrom}
+use Rattle.network.specs.Walk.{Network}
+use Rattle.labels.specs.declared.Step.{Step}
+use Rattle.labels.specs.Labels.{Held}
+
+-- all that stays as it is during a search: arc bytes, each node's class 1 and class 2 capacity, the ends, the class sizes
+pub record Graph : Type 0 where
+  pub arcs : List ℕ
+  pub entry : List ℕ
+  pub cap : List ℕ
+  pub source : ℕ
+  pub target : ℕ
+  pub n1 : ℕ
+  pub n2 : ℕ
+
+-- as the code has it
+abbrev pub graphOf : List ℕ → List ℕ → List ℕ → Step → Graph
+graphOf arcs entry cap at = record { arcs = arcs; entry = entry; cap = cap; source = at .source; target = at .target; n1 = at .n1; n2 = at .n2 }
+
+-- the same search at another x, level, node and height of the stack
+abbrev pub moved : Step → ℕ → ℕ → ℕ → ℕ → Step
+moved at x l v n =
+    record { source = at .source; target = at .target; n1 = at .n1; n2 = at .n2; x = record { 0 = x }; level = record { 0 = l }; node = v; top = n }
+
+-- the network that it is
+abbrev pub net : Graph → Network
+net f =
+    record {
+      arcs = arcsFrom 0 (f .arcs);
+      node = λ v. pairOf (getD (f .entry) v 0) (getD (f .cap) v 0);
+      arc = λ i. pairOf (f .n1 + 1) (f .n2 + 1);
+      source = f .source;
+      target = f .target;
+    }
+
+-- the ends of the arc at place j
+abbrev pub from : List ℕ → ℕ → ℕ
+from arcs j = getD arcs (2 * j) 0
+
+abbrev pub to : List ℕ → ℕ → ℕ
+to arcs j = getD arcs (2 * j + 1) 0
+
+-- what the search is given: ends of arcs are nodes, capacities are in range, and no two nodes share a class 2 position
+pub record Laid (f : Graph) : Type 0 where
+  pub same : length (f .cap) ≡ length (f .entry)
+  pub few : length (f .entry) ≤ 160
+  pub many : length (f .arcs) ≤ 2048
+  pub ends : (i : ℕ) → i < length (f .arcs) → getD (f .arcs) i 0 < length (f .entry)
+  pub s-in : f .source < length (f .entry)
+  pub t-in : f .target < length (f .entry)
+  pub t-pos : 0 < getD (f .cap) (f .target) 0
+  pub small1 : f .n1 ≤ 64
+  pub small2 : f .n2 ≤ 64
+  pub high : (v : ℕ) → v < length (f .entry) → getD (f .cap) v 0 ≤ suc (f .n2)
+  pub only : (u v : ℕ) → u < length (f .entry) → v < length (f .entry) → getD (f .cap) u 0 ≡ getD (f .cap) v 0 → getD (f .cap) u 0 ≤ f .n2 → u ≡ v
+  pub apart : (v : ℕ) → v < length (f .entry) → getD (f .cap) v 0 ≤ f .n2 → f .n1 < getD (f .entry) v 0
+
+-- the first n places, each in the chain of the node that its arc leads to, the later place first; a place is kept as one more, and 0 ends a chain
+pub record Chains (arcs first more : List ℕ) (n : ℕ) : Type 0 where
+  pub head : (j : ℕ) → j < n → j < getD first (to arcs j) 0
+  pub head-is : (v p : ℕ) → getD first v 0 ≡ suc p → (p < n) × (to arcs p ≡ v)
+  pub gap : (j p : ℕ) → j < p → p < n → to arcs j ≡ to arcs p → j < getD more p 0
+  pub back : (p q : ℕ) → p < n → getD more p 0 ≡ suc q → (q < p) × (to arcs q ≡ to arcs p)
+
+-- how many labels are below l
+abbrev pub low : ℕ → List ℕ → ℕ
+low l [] = 0
+low l (x ∷ d) = min 1 (l - x) + low l d
+
+-- the arc at j raises no label above that of s
+abbrev pub Quiet : Graph → List ℕ → ℕ → Type 0
+Quiet f d j = min (getD (f .cap) (from (f .arcs) j) 0) (getD d (to (f .arcs) j) 0) ≤ max (getD d (from (f .arcs) j) 0) (getD d (f .source) 0)
+
+-- w is in, and its label is l
+pub record Ripe (f : Graph) (a l : ℕ) (d : List ℕ) (w : ℕ) : Type 0 where
+  pub node : w < length (f .entry)
+  pub at : getD d w 0 ≡ l
+  pub in-it : a < getD (f .entry) w 0
+
+-- w's label is its capacity, below l, and that level waits
+pub record Waits (f : Graph) (l : ℕ) (d wait : List ℕ) (w : ℕ) : Type 0 where
+  pub below : getD d w 0 < l
+  pub full : getD (f .cap) w 0 ≡ getD d w 0
+  pub flag : getD wait (getD d w 0) 0 ≡ 0 → ⊥
+
+-- why the arc at j needs no look now: it is quiet, or the node it leads to is on the stack, or waits, or is at work and the arc is left in its chain
+pub data Why (f : Graph) (l : ℕ) (d stack wait : List ℕ) (top v i j : ℕ) : Type 0 where
+  quiet : Quiet f d j → Why f l d stack wait top v i j
+  piled : (k : ℕ) → k < top → getD stack k 0 ≡ to (f .arcs) j → Why f l d stack wait top v i j
+  waits : Waits f l d wait (to (f .arcs) j) → Why f l d stack wait top v i j
+  left : to (f .arcs) j ≡ v → j < i → Why f l d stack wait top v i j
+
+-- the levels that wait: each names, as one more, the class 2 node of that position, which has its label
+pub record Named (f : Graph) (d : List ℕ) (c w : ℕ) : Type 0 where
+  pub some : 0 < c
+  pub below : c ≤ f .n2
+  pub node : w < length (f .entry)
+  pub label : getD d w 0 ≡ c
+  pub full : getD (f .cap) w 0 ≡ c
+
+abbrev pub Marked : Graph → List ℕ → List ℕ → Type 0
+Marked f d wait = (c w : ℕ) → getD wait c 0 ≡ suc w → Named f d c w
+
+-- the labels while level l spreads after a failures, with v at work at place i - 1 of its chain (i = 0: none)
+pub record Work (f : Graph) (a l : ℕ) (d stack wait : List ℕ) (top v i : ℕ) : Type 0 where
+  pub laid : Laid f
+  pub long : length (f .entry) ≤ length d
+  pub short : length d ≤ 160
+  pub long-wait : 66 ≤ length wait
+  pub held : Held (net f) a (λ v. getD d v 0)
+  pub early : a ≤ f .n1
+  pub some : 0 < l
+  pub high : l ≤ suc (f .n2)
+  pub at-t : getD (f .cap) (f .target) 0 ≤ getD d (f .target) 0
+  pub fits : top + low l d ≤ length d
+  pub pile : (k : ℕ) → k < top → Ripe f a l d (getD stack k 0)
+  pub going : 0 < i → Ripe f a l d v × (i ≤ length (f .arcs) / 2) × (to (f .arcs) (i - 1) ≡ v)
+  pub marked : Marked f d wait
+  pub why : (j : ℕ) → j < length (f .arcs) / 2 → a < getD (f .entry) (to (f .arcs) j) 0 → Why f l d stack wait top v i j
+
+-- the largest level that waits, between floor and l, or 0
+pub record Next (wait : List ℕ) (l floor r : ℕ) : Type 0 where
+  pub none : (c : ℕ) → max r floor < c → c < l → getD wait c 0 ≡ 0
+  pub found : 0 < r → (floor < r) × (r < l) × (getD wait r 0 ≡ 0 → ⊥)
+
+-- where the sweep begins: s and t are in below it
+abbrev pub start : Graph → ℕ
+start f = min (suc (f .n1)) (min (getD (f .entry) (f .source) 0) (getD (f .entry) (f .target) 0))
+
+-- the labels after a failures, at rest
+pub record Still (f : Graph) (a : ℕ) (d wait : List ℕ) : Type 0 where
+  pub laid : Laid f
+  pub long : length (f .entry) ≤ length d
+  pub short : length d ≤ 160
+  pub long-wait : 66 ≤ length wait
+  pub held : Held (net f) a (λ v. getD d v 0)
+  pub at-t : a < start f → getD (f .cap) (f .target) 0 ≤ getD d (f .target) 0
+  pub clear : start f ≤ a → (v : ℕ) → getD d v 0 ≡ 0
+  pub marked : Marked f d wait
+  pub calm : (j : ℕ) → j < length (f .arcs) / 2 → a < getD (f .entry) (to (f .arcs) j) 0 → Quiet f d j
+
+-- a spread keeps the lengths, and each push lowers the count of low labels
+pub record Kept (l : ℕ) (d₀ stack₀ wait₀ : List ℕ) (top₀ : ℕ) (d stack wait : List ℕ) (top : ℕ) : Type 0 where
+  pub long : length d ≡ length d₀
+  pub long-stack : length stack ≡ length stack₀
+  pub long-wait : length wait ≡ length wait₀
+  pub less : top + 2 * low l d ≤ top₀ + 2 * low l d₀
+
+-- the chains and the stack have room
+pub record Room (arcs entry first more d stack : List ℕ) : Type 0 where
+  pub nodes : length entry ≤ length first
+  pub places : length arcs / 2 ≤ length more
+  pub labels : length d ≤ length stack
+
+pub record Lengths (d₀ stack₀ wait₀ d stack wait : List ℕ) : Type 0 where
+  pub labels : length d ≡ length d₀
+  pub pile : length stack ≡ length stack₀
+  pub levels : length wait ≡ length wait₀

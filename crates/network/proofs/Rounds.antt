@@ -1,0 +1,142 @@
+-- A round's front: exactly the undominated pairs of its paths, and it holds where direct removal finds the round joined.
+use mathlib.Core.Path.{_≡_, refl, sym, subst}
+use mathlib.Core.Logic.{_↔_, ⊎-elim}
+use mathlib.Core.Bool.{Bool, true, false, cond}
+use mathlib.Core.List.{List, [], _∷_, List·Memᴰ·tail, List·Memᴰ·cases-cons, Memᴰ·cast, Memᴰ·of-map, Memᴰ·map}
+use Prim.Native.Nat.{ℕ, zero, suc, _+_, _≤_, _<_}
+use native.Mathlib.Omega.{arith}
+use lib.Dec.{T, eqb, ltb, ltb→lt, lt→ltb}
+use lib.ListN.{length, getD, length-take, length-drop}
+use Rattle.laws.specs.Members.{_∈_, here, any-out, any-in}
+use Rattle.front.specs.declared.Pair.{Pair}
+use Rattle.front.specs.Pair.{pairOf, dominates, holdsAt}
+use Rattle.front.specs.Front.{holds, front, Within, AllWithin, AtMost}
+use Rattle.front.proofs.Pairs.{holds-is}
+use Rattle.front.proofs.Fronts.{front-are, front-holds, under-front}
+use Rattle.orders.specs.Order.{count, order1, order2, position}
+use Rattle.orders.proofs.Places.{position-first}
+use Rattle.parts.specs.Study.{Arc, Study}
+use Rattle.network.specs.Walk.{Network, Walk, Path, visits, pairOn, paths, pathPairs}
+use Rattle.network.specs.Round.{size1, size2, roundAt, works, RoundHolds, capacity, networkIn, roundNetwork, roundFront}
+use Rattle.network.proofs.Paths.{paths-are, straighten}
+
+-- ---- the pairs of paths, and where they hold
+pub pairs-in : (net : Network) (ks : List Arc) → Path (net .arcs) (net .source) (net .target) ks → pairOn net (net .source) ks ∈ pathPairs net
+pairs-in net ks h = Memᴰ·map (pairOn net (net .source)) (paths-are net ks .1 h)
+
+pub pairs-out : (net : Network) (p : Pair) → p ∈ pathPairs net → (ks : List Arc) × Path (net .arcs) (net .source) (net .target) ks × (pairOn net (net .source) ks ≡ p)
+pairs-out net p h = let m = Memᴰ·of-map (pairOn net (net .source)) (paths net) h in (m .0, paths-are net (m .0) .0 (m .1), m .2)
+
+-- some walk from source to target holds at (a, b)
+abbrev pub Joined : Network → ℕ → ℕ → Type 0
+Joined net a b = (ks : List Arc) × Walk (net .arcs) (net .source) (net .target) ks × T (holdsAt (pairOn net (net .source) ks) a b)
+
+pub pairs-hold : (net : Network) (a b : ℕ) → T (holds (pathPairs net) a b) ↔ Joined net a b
+pairs-hold net a b = (
+  λ t.
+      let m = any-out (λ p. holdsAt p a b) (pathPairs net) t in
+      let r = pairs-out net (m .0) (m .1) in
+      (r .0, r .1 .0, subst (λ (p : Pair). T (holdsAt p a b)) (sym (r .2)) (m .2)),
+  λ j.
+      let r = straighten net (net .source) (j .0) (j .1) in
+      let h = holds-is (pairOn net (net .source) (j .0)) a b .0 (j .2) in
+      any-in (λ p. holdsAt p a b) (pairs-in net (r .0) (r .1)) (holds-is (pairOn net (net .source) (r .0)) a b .1 (omega arith, omega arith)),
+)
+
+-- the least capacity on a walk holds where every capacity on it does
+pub walk-holds : (net : Network) (u : ℕ) (ks : List Arc) (a b : ℕ)
+    → T (holdsAt (pairOn net u ks) a b) ↔ (((v : ℕ) → v ∈ visits u ks → T (holdsAt (net .node v) a b)) × ((k : Arc) → k ∈ ks → T (holdsAt (net .arc (k .place)) a b)))
+walk-holds net u [] a b = (λ t. (λ v m. ⊎-elim (λ e. subst (λ x. T (holdsAt (net .node x) a b)) (sym e) t) (λ q. elim q [ ]) (List·Memᴰ·cases-cons m), λ k m. elim m [ ]), λ h. h .0 u here)
+walk-holds net u (k ∷ ks) a b = (
+  λ t.
+      let h = holds-is (pairOn net u (k ∷ ks)) a b .0 t in
+      let r = walk-holds net (k .to) ks a b .0 (holds-is (pairOn net (k .to) ks) a b .1 (omega arith, omega arith)) in (
+        λ v m. ⊎-elim (λ e. subst (λ x. T (holdsAt (net .node x) a b)) (sym e) (holds-is (net .node u) a b .1 (omega arith, omega arith))) (r .0 v) (List·Memᴰ·cases-cons m),
+        λ j m. ⊎-elim (λ e. subst (λ (x : Arc). T (holdsAt (net .arc (x .place)) a b)) (sym e) (holds-is (net .arc (k .place)) a b .1 (omega arith, omega arith))) (r .1 j) (List·Memᴰ·cases-cons m),
+      ),
+  λ h.
+      let i = holds-is (net .node u) a b .0 (h .0 u here) in
+      let j = holds-is (net .arc (k .place)) a b .0 (h .1 k here) in
+      let r = holds-is (pairOn net (k .to) ks) a b .0 (walk-holds net (k .to) ks a b .1 (λ v m. h .0 v (List·Memᴰ·tail m), λ l m. h .1 l (List·Memᴰ·tail m))) in
+      holds-is (pairOn net u (k ∷ ks)) a b .1 (omega arith, omega arith),
+)
+
+-- ---- capacities
+pub position-most : (v : ℕ) (l : List ℕ) → position v l ≤ suc (length l)
+position-most v [] = omega arith
+position-most v (x ∷ l) = go (eqb x v) (position-most v l)
+  where
+    go : (b : Bool) → position v l ≤ suc (length l) → cond b 1 (suc (position v l)) ≤ suc (suc (length l))
+    go true h = omega arith
+    go false h = omega arith
+
+pub capacity-within : (n1 n2 c : ℕ) (o1 o2 : List ℕ) (v : ℕ) → length o1 ≤ n1 → length o2 ≤ n2 → Within n1 n2 (capacity n1 n2 c o1 o2 v)
+capacity-within n1 n2 zero o1 o2 v h k = omega arith
+capacity-within n1 n2 (suc zero) o1 o2 v h k = omega (arith, position-first v o1, position-most v o1)
+capacity-within n1 n2 (suc (suc c)) o1 o2 v h k = omega (arith, position-first v o2, position-most v o2)
+
+-- a node's capacity holds exactly where the node works
+pub capacity-holds : (n1 n2 c : ℕ) (o1 o2 : List ℕ) (v a b : ℕ) → a ≤ n1 → b ≤ n2 → T (holdsAt (capacity n1 n2 c o1 o2 v) a b) ↔ T (works c o1 o2 a b v)
+capacity-holds n1 n2 zero o1 o2 v a b h k = (λ t. tt, λ t. holds-is (pairOf (n1 + 1) (n2 + 1)) a b .1 (omega arith, omega arith))
+capacity-holds n1 n2 (suc zero) o1 o2 v a b h k =
+    let e = holds-is (pairOf (position v o1) (n2 + 1)) a b in
+    (λ t. lt→ltb a (position v o1) (e .0 t .0), λ t. e .1 (ltb→lt a (position v o1) t, omega arith))
+capacity-holds n1 n2 (suc (suc c)) o1 o2 v a b h k =
+    let e = holds-is (pairOf (n1 + 1) (position v o2)) a b in
+    (λ t. lt→ltb b (position v o2) (e .0 t .1), λ t. e .1 (omega arith, ltb→lt b (position v o2) t))
+
+-- capacities in range make pairs in range
+module _ (net : Network) (n1 n2 : ℕ) (node-in : (v : ℕ) → Within n1 n2 (net .node v)) (arc-in : (i : ℕ) → Within n1 n2 (net .arc i)) where
+  walk-within : (u : ℕ) (ks : List Arc) → Within n1 n2 (pairOn net u ks)
+  walk-within u [] = node-in u
+  walk-within u (k ∷ ks) = omega (arith, node-in u, arc-in (k .place), walk-within (k .to) ks)
+
+  pub pairs-within : AllWithin n1 n2 (pathPairs net)
+  pairs-within p m = let x = pairs-out net p m in subst (Within n1 n2) (x .2) (walk-within (net .source) (x .0))
+
+-- ---- a round
+module _ (st : Study) (r : ℕ) (long : length (roundAt st r) ≤ size1 st + size2 st) where
+  inside : AllWithin (size1 st) (size2 st) (pathPairs (roundNetwork st r))
+  inside =
+      pairs-within (roundNetwork st r) (size1 st) (size2 st)
+      (λ v. capacity-within (size1 st) (size2 st) (getD (st .classes) v 0) (order1 (st .classes) (roundAt st r)) (order2 (st .classes) (roundAt st r)) v
+      (omega (arith, length-take (size1 st) (roundAt st r))) (omega (arith, length-drop (size1 st) (roundAt st r))))
+      (λ i. omega arith)
+
+  -- THE FRONT is exactly the pairs of paths that no path's pair dominates
+  pub front-paths : (p : Pair)
+      → (p ∈ roundFront st r)
+      ↔ (((ks : List Arc) × Path (st .arcs) (st .source) (st .target) ks × (pairOn (roundNetwork st r) (st .source) ks ≡ p))
+      × ((ks : List Arc) → Path (st .arcs) (st .source) (st .target) ks → T (dominates (pairOn (roundNetwork st r) (st .source) ks) p) → ⊥))
+  front-paths p =
+      let n = roundNetwork st r in
+      let f = front-are (size1 st) (size2 st) (pathPairs n) inside p in (
+        λ h. (pairs-out n p (f .0 h .0), λ ks o. f .0 h .1 (pairOn n (st .source) ks) (pairs-in n ks o)),
+        λ h. f .1 (Memᴰ·cast (sym (h .0 .2)) (pairs-in n (h .0 .0) (h .0 .1)), λ q m d. let x = pairs-out n q m in h .1 (x .0) (x .1) (subst (λ (v : Pair). T (dominates v p)) (sym (x .2)) d)),
+      )
+
+  -- every path has a pair in the front at least as large in both numbers
+  pub path-under : (ks : List Arc) → Path (st .arcs) (st .source) (st .target) ks → (q : Pair) × (q ∈ roundFront st r) × AtMost (pairOn (roundNetwork st r) (st .source) ks) q
+  path-under ks h = under-front (size1 st) (size2 st) (pathPairs (roundNetwork st r)) inside (pairOn (roundNetwork st r) (st .source) ks) (pairs-in (roundNetwork st r) ks h)
+
+  -- the front holds exactly where direct removal finds the round joined
+  pub front-removal : (a b : ℕ) → a ≤ size1 st → b ≤ size2 st → T (holds (roundFront st r) a b) ↔ RoundHolds st r a b
+  front-removal a b h k = (
+    λ t.
+        let n = roundNetwork st r in
+        let j = pairs-hold n a b .0 (subst T (front-holds (size1 st) (size2 st) (pathPairs n) inside a b) t) in
+        (j .0, j .1, λ v m. at v .0 (walk-holds n (st .source) (j .0) a b .0 (j .2) .0 v m)),
+    λ j.
+        let n = roundNetwork st r in
+        subst T (sym (front-holds (size1 st) (size2 st) (pathPairs n) inside a b))
+        (pairs-hold n a b .1 (
+          j .0,
+          j .1,
+          walk-holds n (st .source) (j .0) a b .1 (λ v m. at v .1 (j .2 v m), λ l m. holds-is (pairOf (size1 st + 1) (size2 st + 1)) a b .1 (omega arith, omega arith)),
+        )),
+  )
+    where
+      at : (v : ℕ)
+          → T (holdsAt (roundNetwork st r .node v) a b)
+          ↔ T (works (getD (st .classes) v 0) (order1 (st .classes) (roundAt st r)) (order2 (st .classes) (roundAt st r)) a b v)
+      at v = capacity-holds (size1 st) (size2 st) (getD (st .classes) v 0) (order1 (st .classes) (roundAt st r)) (order2 (st .classes) (roundAt st r)) v a b h k

@@ -1,0 +1,1 @@
+// Networks, walks and paths: definitions and theorems only (specs/, proofs/).

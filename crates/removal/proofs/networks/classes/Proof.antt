@@ -1,0 +1,77 @@
+use mathlib.Core.Path.{_≡_, refl, sym, ap, _∙_}
+use Prim.Native.Nat.{ℕ, suc, _+_, _-_, _*_, _/_, _≤_, _<_}
+use native.Mathlib.Omega.{arith}
+use borrow.Author.Needs.{needs}
+use lib.ListN.{length, getD, set, length-set}
+use Rattle.removal.proofs.networks.classes.Statement.{statement}
+use Rattle.removal.proofs.networks.classes.Tie as tie
+use Rattle.removal.proofs.networks.classes.Reads as reads
+use Rattle.removal.proofs.networks.classes.Lts as lts
+use Rattle.removal.proofs.networks.flag.Reads as flag-reads
+use Rattle.trial.proofs.pick.Reads as pick-reads
+use Rattle.trial.proofs.poke.Reads as poke-reads
+
+abbrev Inv-loop : tie.InvT-loop
+Inv-loop seed s nodes₀ v₀ n1₀ n2₀ nodes v n1 n2 = (v ≤ 160) × (n1 ≤ v) × (n2 ≤ v) × (length nodes ≡ length nodes₀)
+
+abbrev μ-loop : tie.MeasureT-loop
+μ-loop seed s nodes₀ v₀ n1₀ n2₀ nodes v n1 n2 = 160 - v
+
+loop-holds : tie.Need-loop-holds Inv-loop μ-loop
+loop-holds c = search needs
+
+add-pick : tie.Need-add-pick Inv-loop μ-loop
+add-pick c = search needs
+
+pick-requires : tie.Need-pick-requires Inv-loop μ-loop
+pick-requires c κs = search needs
+
+flag-requires : tie.Need-flag-requires Inv-loop μ-loop
+flag-requires c κs = search needs
+
+add-n1 : tie.Need-add-n1 Inv-loop μ-loop
+add-n1 c = search needs
+
+flag-requires-2 : tie.Need-flag-requires-2 Inv-loop μ-loop
+flag-requires-2 c κs = search needs
+
+add-n2 : tie.Need-add-n2 Inv-loop μ-loop
+add-n2 c = search needs
+
+poke-requires : tie.Need-poke-requires Inv-loop μ-loop
+poke-requires c κs = search needs
+
+add-v : tie.Need-add-v Inv-loop μ-loop
+add-v c = search needs
+
+loop-less : tie.Need-loop-less Inv-loop μ-loop
+loop-less c = search needs
+
+loop-again : tie.Need-loop-again Inv-loop μ-loop
+loop-again c = search needs
+
+same-length : tie.Need-same-length Inv-loop μ-loop
+same-length c = search needs
+
+returns : tie.Need-returns Inv-loop μ-loop
+returns c = search needs
+
+pub classes-spec : {M : Type 1} → statement M
+classes-spec =
+    tie.close
+    (tie.spec
+    Inv-loop
+    μ-loop
+    loop-holds
+    add-pick
+    pick-requires
+    flag-requires
+    add-n1
+    flag-requires-2
+    add-n2
+    poke-requires
+    add-v
+    loop-less
+    loop-again
+    same-length
+    returns)

@@ -1,0 +1,76 @@
+use mathlib.Core.Path.{_≡_, refl, sym, ap, _∙_}
+use Prim.Native.Nat.{ℕ, suc, _+_, _-_, _*_, _/_, _≤_, _<_}
+use native.Mathlib.Omega.{arith}
+use borrow.Author.Needs.{needs}
+use lib.ListN.{length, getD, set, length-set}
+use Rattle.removal.proofs.networks.near.Statement.{statement}
+use Rattle.removal.proofs.networks.near.Tie as tie
+use Rattle.removal.proofs.networks.near.Reads as reads
+use Rattle.removal.proofs.networks.near.Lts as lts
+use Rattle.removal.proofs.networks.far.Reads as far-reads
+use Rattle.trial.proofs.pick.Reads as pick-reads
+
+abbrev Inv-loop : tie.InvT-loop
+Inv-loop seed u i n best₀ k₀ best k = k ≤ 5
+
+abbrev μ-loop : tie.MeasureT-loop
+μ-loop seed u i n best₀ k₀ best k = 5 - k
+
+add-pick : tie.Need-add-pick Inv-loop μ-loop
+add-pick c = search needs
+
+pick-requires : tie.Need-pick-requires Inv-loop μ-loop
+pick-requires c κs = search needs
+
+loop-holds : tie.Need-loop-holds Inv-loop μ-loop
+loop-holds c = search needs
+
+mul-pick : tie.Need-mul-pick Inv-loop μ-loop
+mul-pick c = search needs
+
+add-pick-2 : tie.Need-add-pick-2 Inv-loop μ-loop
+add-pick-2 c = search needs
+
+add-pick-3 : tie.Need-add-pick-3 Inv-loop μ-loop
+add-pick-3 c = search needs
+
+pick-requires-2 : tie.Need-pick-requires-2 Inv-loop μ-loop
+pick-requires-2 c κs = search needs
+
+far-requires : tie.Need-far-requires Inv-loop μ-loop
+far-requires c κs = search needs
+
+far-requires-2 : tie.Need-far-requires-2 Inv-loop μ-loop
+far-requires-2 c κs = search needs
+
+add-k : tie.Need-add-k Inv-loop μ-loop
+add-k c = search needs
+
+loop-less : tie.Need-loop-less Inv-loop μ-loop
+loop-less c = search needs
+
+loop-again : tie.Need-loop-again Inv-loop μ-loop
+loop-again c = search needs
+
+returns : tie.Need-returns Inv-loop μ-loop
+returns c = search needs
+
+pub near-spec : {M : Type 1} → statement M
+near-spec =
+    tie.close
+    (tie.spec
+    Inv-loop
+    μ-loop
+    add-pick
+    pick-requires
+    loop-holds
+    mul-pick
+    add-pick-2
+    add-pick-3
+    pick-requires-2
+    far-requires
+    far-requires-2
+    add-k
+    loop-less
+    loop-again
+    returns)

@@ -1,0 +1,85 @@
+use mathlib.Core.Path.{_≡_, refl, sym, ap, _∙_}
+use Prim.Native.Nat.{ℕ, suc, _+_, _-_, _*_, _/_, _≤_, _<_}
+use native.Mathlib.Omega.{arith}
+use borrow.Author.Needs.{needs}
+use lib.ListN.{length, getD, set, length-set}
+use Rattle.removal.proofs.networks.shuffle.Statement.{statement}
+use Rattle.removal.proofs.networks.shuffle.Tie as tie
+use Rattle.removal.proofs.networks.shuffle.Reads as reads
+use Rattle.removal.proofs.networks.shuffle.Lts as lts
+use Rattle.trial.proofs.byte.Reads as byte-reads
+use Rattle.trial.proofs.pick.Reads as pick-reads
+use Rattle.trial.proofs.poke.Reads as poke-reads
+
+abbrev Inv-loop : tie.InvT-loop
+Inv-loop seed out₀ at end i₀ out i = (at ≤ i) × (length out ≡ length out₀)
+
+abbrev μ-loop : tie.MeasureT-loop
+μ-loop seed out₀ at end i₀ out i = end - i
+
+loop-holds : tie.Need-loop-holds Inv-loop μ-loop
+loop-holds c = search needs
+
+add-pick : tie.Need-add-pick Inv-loop μ-loop
+add-pick c = search needs
+
+sub-pick : tie.Need-sub-pick Inv-loop μ-loop
+sub-pick c = search needs
+
+add-pick-2 : tie.Need-add-pick-2 Inv-loop μ-loop
+add-pick-2 c = search needs
+
+pick-requires : tie.Need-pick-requires Inv-loop μ-loop
+pick-requires c κs = search needs
+
+add-j : tie.Need-add-j Inv-loop μ-loop
+add-j c = search needs
+
+byte-requires : tie.Need-byte-requires Inv-loop μ-loop
+byte-requires c κs = search needs
+
+byte-requires-2 : tie.Need-byte-requires-2 Inv-loop μ-loop
+byte-requires-2 c κs = search needs
+
+poke-requires : tie.Need-poke-requires Inv-loop μ-loop
+poke-requires c κs = search needs
+
+poke-requires-2 : tie.Need-poke-requires-2 Inv-loop μ-loop
+poke-requires-2 c κs = search needs
+
+add-i : tie.Need-add-i Inv-loop μ-loop
+add-i c = search needs
+
+loop-less : tie.Need-loop-less Inv-loop μ-loop
+loop-less c = search needs
+
+loop-again : tie.Need-loop-again Inv-loop μ-loop
+loop-again c = search needs
+
+same-length : tie.Need-same-length Inv-loop μ-loop
+same-length c = search needs
+
+returns : tie.Need-returns Inv-loop μ-loop
+returns c = search needs
+
+pub shuffle-spec : {M : Type 1} → statement M
+shuffle-spec =
+    tie.close
+    (tie.spec
+    Inv-loop
+    μ-loop
+    loop-holds
+    add-pick
+    sub-pick
+    add-pick-2
+    pick-requires
+    add-j
+    byte-requires
+    byte-requires-2
+    poke-requires
+    poke-requires-2
+    add-i
+    loop-less
+    loop-again
+    same-length
+    returns)

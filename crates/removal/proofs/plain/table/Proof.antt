@@ -1,0 +1,56 @@
+use mathlib.Core.Path.{_≡_, refl, sym, ap, _∙_}
+use Prim.Native.Nat.{ℕ, suc, _+_, _-_, _*_, _/_, _≤_, _<_}
+use native.Mathlib.Omega.{arith}
+use borrow.Author.Needs.{needs}
+use lib.ListN.{length, getD, set, length-set}
+use Rattle.removal.proofs.plain.table.Statement.{statement}
+use Rattle.removal.proofs.plain.table.Tie as tie
+use Rattle.removal.proofs.plain.table.Reads as reads
+use Rattle.removal.proofs.plain.table.Lts as lts
+use Rattle.removal.proofs.plain.holds_at.Reads as holds-at-reads
+use Rattle.trial.proofs.poke.Reads as poke-reads
+
+abbrev Inv-loop : tie.InvT-loop
+Inv-loop arcs order1 order2 cells₀ i₀ cells i = (i ≤ 4225) × (length cells ≡ length cells₀)
+
+abbrev μ-loop : tie.MeasureT-loop
+μ-loop arcs order1 order2 cells₀ i₀ cells i = 4225 - i
+
+loop-holds : tie.Need-loop-holds Inv-loop μ-loop
+loop-holds c = search needs
+
+holds-at-requires : tie.Need-holds-at-requires Inv-loop μ-loop
+holds-at-requires c κs = search needs
+
+poke-requires : tie.Need-poke-requires Inv-loop μ-loop
+poke-requires c κs = search needs
+
+add-i : tie.Need-add-i Inv-loop μ-loop
+add-i c = search needs
+
+loop-less : tie.Need-loop-less Inv-loop μ-loop
+loop-less c = search needs
+
+loop-again : tie.Need-loop-again Inv-loop μ-loop
+loop-again c = search needs
+
+same-length : tie.Need-same-length Inv-loop μ-loop
+same-length c = search needs
+
+returns : tie.Need-returns Inv-loop μ-loop
+returns c = search needs
+
+pub table-spec : {M : Type 1} → statement M
+table-spec =
+    tie.close
+    (tie.spec
+    Inv-loop
+    μ-loop
+    loop-holds
+    holds-at-requires
+    poke-requires
+    add-i
+    loop-less
+    loop-again
+    same-length
+    returns)

@@ -1,0 +1,183 @@
+use mathlib.Core.Path.{_≡_, refl, sym, ap, _∙_}
+use Prim.Native.Nat.{ℕ, suc, _+_, _-_, _*_, _/_, _≤_, _<_}
+use native.Mathlib.Omega.{arith}
+use borrow.Author.Needs.{needs}
+use lib.ListN.{length, getD, set, length-set}
+use Rattle.removal.proofs.try_rounds.Statement.{statement}
+use Rattle.removal.proofs.try_rounds.Tie as tie
+use Rattle.removal.proofs.try_rounds.Reads as reads
+use Rattle.removal.proofs.try_rounds.Lts as lts
+use Rattle.removal.proofs.copy.Reads as copy-reads
+use Rattle.removal.proofs.eight.Reads as eight-reads
+use Rattle.removal.proofs.leaves_of.Reads as leaves-of-reads
+use Rattle.removal.proofs.part.Reads as part-reads
+use Rattle.removal.proofs.plain.differ.Reads as differ-reads
+use Rattle.removal.proofs.plan.Reads as plan-reads
+use Rattle.removal.proofs.try_round.Reads as try-round-reads
+use Rattle.trial.proofs.byte.Reads as byte-reads
+use Rattle.trial.proofs.pick.Reads as pick-reads
+
+abbrev Inv-loop : tie.InvT-loop
+Inv-loop seed net file arcs rounds small counts fronts₀ tables₀ searched₀ pairs₀ wrong₀ per at₀ r₀ fronts tables searched pairs wrong at r = (r ≤ 8) × (at ≤ 320 * r) × (length fronts ≡ 1280) × (length tables ≡ 33800)
+
+abbrev μ-loop : tie.MeasureT-loop
+μ-loop seed net file arcs rounds small counts fronts₀ tables₀ searched₀ pairs₀ wrong₀ per at₀ r₀ fronts tables searched pairs wrong at r = 8 - r
+
+add-per : tie.Need-add-per Inv-loop μ-loop
+add-per c = search needs
+
+loop-holds : tie.Need-loop-holds Inv-loop μ-loop
+loop-holds c = search needs
+
+part-requires : tie.Need-part-requires Inv-loop μ-loop
+part-requires c κs = search needs
+
+add-at : tie.Need-add-at Inv-loop μ-loop
+add-at c = search needs
+
+slice-aggregate-try-round : tie.Need-slice-aggregate-try-round Inv-loop μ-loop
+slice-aggregate-try-round c = search needs
+
+slice-aggregate-try-round-2 : tie.Need-slice-aggregate-try-round-2 Inv-loop μ-loop
+slice-aggregate-try-round-2 c = search needs
+
+try-round-requires : tie.Need-try-round-requires Inv-loop μ-loop
+try-round-requires c κs = search needs
+
+add-wrong : tie.Need-add-wrong Inv-loop μ-loop
+add-wrong c = search needs
+
+slice-aggregate-byte : tie.Need-slice-aggregate-byte Inv-loop μ-loop
+slice-aggregate-byte c = search needs
+
+byte-requires : tie.Need-byte-requires Inv-loop μ-loop
+byte-requires c κs = search needs
+
+add-pairs : tie.Need-add-pairs Inv-loop μ-loop
+add-pairs c = search needs
+
+add-searched : tie.Need-add-searched Inv-loop μ-loop
+add-searched c = search needs
+
+slice-aggregate-copy : tie.Need-slice-aggregate-copy Inv-loop μ-loop
+slice-aggregate-copy c = search needs
+
+slice-aggregate-copy-2 : tie.Need-slice-aggregate-copy-2 Inv-loop μ-loop
+slice-aggregate-copy-2 c = search needs
+
+mul-copy : tie.Need-mul-copy Inv-loop μ-loop
+mul-copy c = search needs
+
+copy-requires : tie.Need-copy-requires Inv-loop μ-loop
+copy-requires c κs = search needs
+
+slice-aggregate-copy-3 : tie.Need-slice-aggregate-copy-3 Inv-loop μ-loop
+slice-aggregate-copy-3 c = search needs
+
+slice-aggregate-copy-4 : tie.Need-slice-aggregate-copy-4 Inv-loop μ-loop
+slice-aggregate-copy-4 c = search needs
+
+mul-copy-2 : tie.Need-mul-copy-2 Inv-loop μ-loop
+mul-copy-2 c = search needs
+
+copy-requires-2 : tie.Need-copy-requires-2 Inv-loop μ-loop
+copy-requires-2 c κs = search needs
+
+add-r : tie.Need-add-r Inv-loop μ-loop
+add-r c = search needs
+
+loop-less : tie.Need-loop-less Inv-loop μ-loop
+loop-less c = search needs
+
+loop-again : tie.Need-loop-again Inv-loop μ-loop
+loop-again c = search needs
+
+pick-requires : tie.Need-pick-requires Inv-loop μ-loop
+pick-requires c κs = search needs
+
+leaves-of-requires : tie.Need-leaves-of-requires Inv-loop μ-loop
+leaves-of-requires c κs = search needs
+
+slice-aggregate-plan : tie.Need-slice-aggregate-plan Inv-loop μ-loop
+slice-aggregate-plan c = search needs
+
+slice-aggregate-plan-2 : tie.Need-slice-aggregate-plan-2 Inv-loop μ-loop
+slice-aggregate-plan-2 c = search needs
+
+slice-aggregate-plan-3 : tie.Need-slice-aggregate-plan-3 Inv-loop μ-loop
+slice-aggregate-plan-3 c = search needs
+
+slice-aggregate-plan-4 : tie.Need-slice-aggregate-plan-4 Inv-loop μ-loop
+slice-aggregate-plan-4 c = search needs
+
+plan-requires : tie.Need-plan-requires Inv-loop μ-loop
+plan-requires c κs = search needs
+
+slice-aggregate-differ : tie.Need-slice-aggregate-differ Inv-loop μ-loop
+slice-aggregate-differ c = search needs
+
+slice-aggregate-differ-2 : tie.Need-slice-aggregate-differ-2 Inv-loop μ-loop
+slice-aggregate-differ-2 c = search needs
+
+differ-requires : tie.Need-differ-requires Inv-loop μ-loop
+differ-requires c κs = search needs
+
+add-wrong-2 : tie.Need-add-wrong-2 Inv-loop μ-loop
+add-wrong-2 c = search needs
+
+eight-requires : tie.Need-eight-requires Inv-loop μ-loop
+eight-requires c κs = search needs
+
+add-t52 : tie.Need-add-t52 Inv-loop μ-loop
+add-t52 c = search needs
+
+add-t59 : tie.Need-add-t59 Inv-loop μ-loop
+add-t59 c = search needs
+
+returns : tie.Need-returns Inv-loop μ-loop
+returns c = search needs
+
+pub try-rounds-spec : {M : Type 1} → statement M
+try-rounds-spec =
+    tie.close
+    (tie.spec
+    Inv-loop
+    μ-loop
+    add-per
+    loop-holds
+    part-requires
+    add-at
+    slice-aggregate-try-round
+    slice-aggregate-try-round-2
+    try-round-requires
+    add-wrong
+    slice-aggregate-byte
+    byte-requires
+    add-pairs
+    add-searched
+    slice-aggregate-copy
+    slice-aggregate-copy-2
+    mul-copy
+    copy-requires
+    slice-aggregate-copy-3
+    slice-aggregate-copy-4
+    mul-copy-2
+    copy-requires-2
+    add-r
+    loop-less
+    loop-again
+    pick-requires
+    leaves-of-requires
+    slice-aggregate-plan
+    slice-aggregate-plan-2
+    slice-aggregate-plan-3
+    slice-aggregate-plan-4
+    plan-requires
+    slice-aggregate-differ
+    slice-aggregate-differ-2
+    differ-requires
+    add-wrong-2
+    eight-requires
+    add-t52
+    add-t59
+    returns)

@@ -1,0 +1,112 @@
+-- The sweep collects the front: what is collected and what lies below x hold where the network does.
+use mathlib.Core.Path.{_≡_, refl, sym, ap, _∙_, subst}
+use mathlib.Core.Logic.{_↔_, _⊎_, inl, inr, ⊎-elim}
+use mathlib.Core.Bool.{Bool, true, false, _&&_, _||_}
+use mathlib.Core.List.{List, [], _∷_, _++_}
+use Prim.Native.Nat.{ℕ, zero, suc, _+_, _-_, _≤_, _<_}
+use native.Mathlib.Omega.{arith}
+use lib.Dec.{T, ltb, ltb→lt, lt→ltb}
+use lib.ListN.{length, getD}
+use Rattle.laws.specs.Tests.{T-ext, T-and, T-or, order}
+use Rattle.laws.specs.Members.{_∈_, any-out, any-in}
+use Rattle.front.specs.declared.Pair.{Pair}
+use Rattle.front.specs.Pair.{pairOf, holdsAt}
+use Rattle.front.specs.Front.{holds, Within, AllWithin}
+use Rattle.front.proofs.Pairs.{holds-is}
+use Rattle.record.specs.Record.{size1, size2, listed, frontBytes}
+use Rattle.buffer.specs.Buffer.{longest, recordIn, Puttable}
+use Rattle.buffer.proofs.Collects.{Where, Collects, collects-puttable, collects-more, collects-all}
+use Rattle.network.specs.Walk.{pathPairs}
+use Rattle.labels.specs.State.{Graph, net, Still, start}
+use Rattle.labels.proofs.Rests.{at-rest}
+use Rattle.sweep.specs.Sweep.{whole, below}
+
+-- what holds after more failures holds after fewer
+pub holds-fewer : (l : List Pair) (a c b : ℕ) → a ≤ c → T (holds l c b) → T (holds l a b)
+holds-fewer l a c b h t =
+    let r = any-out (λ p. holdsAt p c b) l t in
+    let k = holds-is (r .0) c b .0 (r .2) in
+    any-in (λ p. holdsAt p a b) (r .1) (holds-is (r .0) a b .1 (omega arith, k .1))
+
+module _ (f : Graph) where
+  pub below-is : (x a b : ℕ) → T (below f x a b) ↔ ((a < x) × T (whole f a b))
+  below-is x a b =
+      let e = T-and (ltb a x) (whole f a b) in
+      (λ t. (ltb→lt a x (e .0 t .0), e .0 t .1), λ k. e .1 (lt→ltb a x (k .0), k .1))
+
+  -- y is how many failures of class 2 the network stands after a of class 1
+  abbrev pub Height : ℕ → ℕ → Type 0
+  Height a y = (b : ℕ) → T (whole f a b) ↔ (b < y)
+
+  -- fewer failures of class 1: no lower height
+  pub height-order : (a c y z : ℕ) → a ≤ c → Height a y → Height c z → z ≤ y
+  height-order a c y z h hy hz =
+      ⊎-elim (λ le. le) (λ lt. absurd (omega (arith, hy y .0 (holds-fewer (pathPairs (net f)) a c y h (hz y .1 lt))))) (order z y)
+
+  -- at and above x all is collected
+  module _ {x : ℕ} {buf : List ℕ} (c : Collects (f .n1) (f .n2) (whole f) (below f x) x buf) where
+    out : (u v : ℕ) → T (whole f u v) → T (holds (c .done) u v) ⊎ (u < x)
+    out u v t = ⊎-elim inl (λ k. inr (below-is x u v .0 k .0)) (T-or (holds (c .done) u v) (below f x u v) .0 (subst T (c .holding u v) t))
+
+    into : (u v : ℕ) → T (holds (c .done) u v) → T (whole f u v)
+    into u v t = subst T (sym (c .holding u v)) (T-or (holds (c .done) u v) (below f x u v) .1 (inl t))
+
+    module _ (a y last : ℕ) (is : x ≡ suc a) (now : Height a y) (old : Height x last) where
+      -- the height stays: nothing is to be collected
+      pub same-height : y ≤ last → Collects (f .n1) (f .n2) (whole f) (below f a) a buf
+      same-height h =
+          record {
+            long = c .long;
+            small1 = c .small1;
+            small2 = c .small2;
+            done = c .done;
+            begins = c .begins;
+            form = c .form;
+            holding = λ u v. T-ext (whole f u v) (holds (c .done) u v || below f a u v) (
+              λ t. T-or (holds (c .done) u v) (below f a u v) .1 (at u v t),
+              λ t. ⊎-elim (into u v) (λ k. below-is a u v .0 k .1) (T-or (holds (c .done) u v) (below f a u v) .0 t),
+            );
+            above = λ q m. omega (arith, c .above q m);
+          }
+        where
+          at : (u v : ℕ) → T (whole f u v) → T (holds (c .done) u v) ⊎ T (below f a u v)
+          at u v t =
+              ⊎-elim
+              (λ (le : a ≤ u).
+              ⊎-elim inl
+              (λ lt.
+              let e : u ≡ a = omega arith in
+              let b : v < last = omega (arith, now v .0 (subst (λ k. T (whole f k v)) e t)) in
+              ⊎-elim (λ d. inl (holds-fewer (c .done) u x v (omega arith) d)) (λ n. absurd (omega arith)) (out x v (old v .1 b))) (out u v t))
+              (λ lt. inr (below-is a u v .1 (lt, t))) (order a u)
+
+      -- the height rises: the pair (x, y) is put
+      module _ (rise : last < y) (w : Within (f .n1) (f .n2) (pairOf x y)) where
+        pub rise-puttable : Puttable buf (pairOf x y)
+        rise-puttable = collects-puttable c (pairOf x y) w (omega arith)
+
+        pub rise-height : {buf′ : List ℕ} → length buf′ ≡ longest → recordIn buf′ ≡ frontBytes (size1 buf) (size2 buf) (listed (recordIn buf) ++ (pairOf x y ∷ []))
+            → Collects (f .n1) (f .n2) (whole f) (below f a) a buf′
+        rise-height l e =
+            collects-more c (pairOf x y) w (omega arith) l e
+            (λ u v. T-ext (below f x u v) (holdsAt (pairOf x y) u v || below f a u v) (
+              λ t. T-or (holdsAt (pairOf x y) u v) (below f a u v) .1 (at u v (below-is x u v .0 t)),
+              λ t. below-is x u v .1 (⊎-elim (from u v) (λ k. let q = below-is a u v .0 k in (omega (arith, q .0), q .1)) (T-or (holdsAt (pairOf x y) u v) (below f a u v) .0 t)),
+            ))
+            (omega arith)
+          where
+            at : (u v : ℕ) → (u < x) × T (whole f u v) → T (holdsAt (pairOf x y) u v) ⊎ T (below f a u v)
+            at u v k =
+                ⊎-elim
+                (λ (le : a ≤ u). let e : u ≡ a = omega (arith, k .0) in inl (holds-is (pairOf x y) u v .1 (k .0, now v .0 (subst (λ n. T (whole f n v)) e (k .1)))))
+                (λ lt. inr (below-is a u v .1 (lt, k .1))) (order a u)
+
+            from : (u v : ℕ) → T (holdsAt (pairOf x y) u v) → (u < x) × T (whole f u v)
+            from u v t = let k = holds-is (pairOf x y) u v .0 t in (k .0, holds-fewer (pathPairs (net f)) u a v (omega (arith, k .0)) (now v .1 (k .1)))
+
+  -- nothing lies below 0: the record is the front
+  pub all-collected : {buf : List ℕ} → Collects (f .n1) (f .n2) (whole f) (below f 0) 0 buf → AllWithin (f .n1) (f .n2) (pathPairs (net f)) → recordIn buf ≡ frontBytes (f .n1) (f .n2) (pathPairs (net f))
+  all-collected c w = collects-all c (pathPairs (net f)) w (λ x y. refl) (λ u v. none u v)
+    where
+      none : (u v : ℕ) → below f 0 u v ≡ false
+      none u v = T-ext (below f 0 u v) false (λ t. absurd (omega (arith, below-is 0 u v .0 t .0)), λ t. absurd t)

@@ -1,0 +1,174 @@
+-- The turns of the sweep: from one x to the next that matters.
+use mathlib.Core.Path.{_≡_, refl, sym, ap, _∙_, subst}
+use mathlib.Core.Logic.{_↔_, ⊎-elim}
+use mathlib.Core.Bool.{Bool, true, false, _||_}
+use mathlib.Core.List.{List, [], _∷_, _++_}
+use Prim.Native.Nat.{ℕ, zero, suc, _+_, _-_, _/_, _≤_, _<_}
+use native.Mathlib.Omega.{arith}
+use lib.Dec.{T}
+use lib.ListN.{length, getD, set, replicate, length-set, length-replicate}
+use lib.Seq.{getD-set-same}
+use Rattle.laws.specs.Tests.{T-ext, T-or, order as sides}
+use Rattle.laws.specs.Members.{any-out}
+use Rattle.front.specs.declared.Pair.{Pair}
+use Rattle.front.specs.Pair.{pairOf, holdsAt}
+use Rattle.front.specs.Front.{holds, Within, AllWithin}
+use Rattle.front.proofs.Pairs.{holds-is}
+use Rattle.record.specs.Record.{size1, size2, listed, frontBytes}
+use Rattle.buffer.specs.Buffer.{longest, recordIn, Puttable}
+use Rattle.buffer.proofs.Collects.{Collects, collects-none}
+use Rattle.network.specs.Walk.{pathPairs}
+use Rattle.labels.specs.State.{Graph, Laid, Chains, Work, Still, Room, Lengths, net, start}
+use Rattle.labels.proofs.Drains.{skipped, entered, first-in}
+use Rattle.labels.proofs.Rests.{at-rest, at-first}
+use Rattle.sweep.specs.Sweep.{whole, below, ByOrder, NextIn}
+use Rattle.sweep.proofs.Sweeps.{Height, height-order, holds-fewer, below-is, same-height, rise-puttable, rise-height, all-collected}
+
+-- the sweep at x, where `node` enters; `last` is the height after x failures
+pub record Sweeping (f : Graph) (first more order label stack wait found : List ℕ) (x node last : ℕ) : Type 0 where
+  pub work : Work f (x - 1) (getD label node 0) label (node ∷ []) wait 1 0 0
+  pub some : 0 < x
+  pub begun : x ≤ start f
+  pub chains : Chains (f .arcs) first more (length (f .arcs) / 2)
+  pub room : Room (f .arcs) (f .entry) first more label stack
+  pub by-order : ByOrder f order
+  pub height : Height f x last
+  pub done : Collects (f .n1) (f .n2) (whole f) (below f x) x found
+  pub within : AllWithin (f .n1) (f .n2) (pathPairs (net f))
+
+-- past nodes whose label is not above that of the source nothing changes
+module _ {f : Graph} {order : List ℕ} (o : ByOrder f order) {d wait buf : List ℕ} where
+  pub down : (a r : ℕ) → r ≤ a → a < start f → Still f a d wait → Collects (f .n1) (f .n2) (whole f) (below f a) a buf
+      → ((k : ℕ) → r ≤ k → k < a → getD d (getD order k 0) 0 ≤ getD d (f .source) 0) → Still f r d wait × Collects (f .n1) (f .n2) (whole f) (below f r) r buf
+  down zero r h b s c none = let e : 0 ≡ r = omega arith in subst (λ n. Still f n d wait × Collects (f .n1) (f .n2) (whole f) (below f n) n buf) e (s, c)
+  down (suc a) r h b s c none =
+      ⊎-elim
+      (λ (le : suc a ≤ r). let e : suc a ≡ r = omega arith in subst (λ n. Still f n d wait × Collects (f .n1) (f .n2) (whole f) (below f n) n buf) e (s, c))
+      (λ lt.
+      let s′ = skipped s b (getD order a 0) (o .node a (omega arith)) (o .place a (omega arith)) (λ v. o .alone a v (omega arith)) (none a (omega arith) (omega arith)) in
+      let y = getD d (f .source) 0 in
+      down a r (omega arith) (omega arith) s′ (same-height f c a y y refl (at-rest s′ (omega arith)) (at-rest s (omega arith)) (omega arith)) (λ k i j. none k i (omega arith)))
+      (sides (suc a) r)
+
+-- no height is above n2 + 1
+height-most : (f : Graph) (a y : ℕ) → AllWithin (f .n1) (f .n2) (pathPairs (net f)) → Height f a y → y ≤ suc (f .n2)
+height-most f a y w h =
+    ⊎-elim (λ le. le)
+    (λ lt.
+    let r = any-out (λ p. holdsAt p a (suc (f .n2))) (pathPairs (net f)) (h (suc (f .n2)) .1 lt) in
+    absurd (omega (arith, w (r .0) (r .1), holds-is (r .0) a (suc (f .n2)) .0 (r .2))))
+    (sides y (suc (f .n2)))
+
+-- the turn after a flood: the labels are at rest, and y is the label of the source
+module _ {f : Graph} {first more order label stack wait found : List ℕ} {x node last : ℕ} (w : Sweeping f first more order label stack wait found x node last)
+    {label₁ wait₁ : List ℕ} (s : Still f (x - 1) label₁ wait₁) (y : ℕ) (is : y ≡ getD label₁ (f .source) 0) where
+  early : x - 1 ≤ f .n1
+  early = omega (arith, w .some, w .begun)
+
+  now : Height f (x - 1) y
+  now = rw is (at-rest s early)
+
+  up : x ≡ suc (x - 1)
+  up = omega (arith, w .some)
+
+  -- the pair (x, y), where it rises
+  inside : last < y → Within (f .n1) (f .n2) (pairOf x y)
+  inside h = omega (arith, w .some, w .begun, height-most f (x - 1) y (w .within) now)
+
+  pub puttable : last < y → Puttable found (pairOf x y)
+  puttable h = rise-puttable f (w .done) (x - 1) y last up now (w .height) h (inside h)
+
+  -- what is collected then
+  pub collected : {found₁ : List ℕ} → length found₁ ≡ longest → (y ≤ last → found₁ ≡ found) → (last < y → recordIn found₁ ≡ frontBytes (size1 found) (size2 found) (listed (recordIn found) ++ (pairOf x y ∷ [])))
+      → Collects (f .n1) (f .n2) (whole f) (below f (x - 1)) (x - 1) found₁
+  collected {found₁} l same more =
+      ⊎-elim
+      (λ le. subst (λ b. Collects (f .n1) (f .n2) (whole f) (below f (x - 1)) (x - 1) b) (sym (same le)) (same-height f (w .done) (x - 1) y last up now (w .height) le))
+      (λ lt. rise-height f (w .done) (x - 1) y last up now (w .height) lt (inside lt) l (more lt)) (sides y last)
+
+  module _ {found₁ : List ℕ} (c : Collects (f .n1) (f .n2) (whole f) (below f (x - 1)) (x - 1) found₁) {r : ℕ} (n : NextIn order label₁ (x - 1) y r) where
+    low : Still f r label₁ wait₁ × Collects (f .n1) (f .n2) (whole f) (below f r) r found₁
+    low = down (w .by-order) (x - 1) r (n .most) (omega (arith, w .some, w .begun)) s c (λ k i j. omega (arith, n .none k i j, is))
+
+    -- no node is left that could raise the source's label
+    pub ended : r ≡ 0 → recordIn found₁ ≡ frontBytes (f .n1) (f .n2) (pathPairs (net f))
+    ended e = all-collected f (subst (λ k. Collects (f .n1) (f .n2) (whole f) (below f k) k found₁) e (low .1)) (w .within)
+
+    -- the next node enters
+    pub onward : {stack₁ : List ℕ} → 0 < r → Lengths label stack wait label₁ stack₁ wait₁ → Sweeping f first more order label₁ stack₁ wait₁ found₁ r (getD order (r - 1) 0) y
+    onward {stack₁} h k =
+        let o = w .by-order in
+        let v = getD order (r - 1) 0 in
+        let e : suc (r - 1) ≡ r = omega arith in
+        let b : r - 1 < f .n1 = omega (arith, n .most, early) in
+        let st : Still f (suc (r - 1)) label₁ wait₁ = subst (λ i. Still f i label₁ wait₁) (sym e) (low .0) in
+        record {
+          work = entered st (omega (arith, n .most, w .some, w .begun)) v (o .node (r - 1) b) (o .place (r - 1) b) (λ u. o .alone (r - 1) u b) (omega arith) (omega (arith, n .found h, is));
+          some = h;
+          begun = omega (arith, n .most, w .begun);
+          chains = w .chains;
+          room = record { nodes = w .room .nodes; places = w .room .places; labels = omega (arith, w .room .labels, k .labels, k .pile) };
+          by-order = o;
+          height = rw is (at-rest (low .0) (omega (arith, n .most, early)));
+          done = low .1;
+          within = w .within;
+        }
+
+-- ---- the first turn: only the target has a label
+pub zeros : (n v : ℕ) → getD {A = ℕ} (replicate n 0) v 0 ≡ 0
+zeros zero v = refl
+zeros (suc n) zero = refl
+zeros (suc n) (suc v) = zeros n v
+
+module _ {f : Graph} {first more order found : List ℕ} (l : Laid f) (o : ByOrder f order) (ch : Chains (f .arcs) first more (length (f .arcs) / 2))
+    (entry-first : length (f .entry) ≤ length first) (places : length (f .arcs) / 2 ≤ length more) (within : AllWithin (f .n1) (f .n2) (pathPairs (net f)))
+    (empty : found ≡ f .n1 ∷ f .n2 ∷ replicate 131 0) (x : ℕ) (is-x : x ≡ start f) (some : 0 < x) where
+  still : Still f (start f) (replicate 160 0) (replicate 66 0)
+  still = at-first l (omega arith) refl (omega arith) (zeros 160) (zeros 66)
+
+  -- an end is shut
+  shut : Height f x 0
+  shut b = (
+    λ t.
+        let r = any-out (λ p. holdsAt p x b) (pathPairs (net f)) t in
+        let h = holds-is (r .0) x b .0 (r .2) in
+        let k : x ≤ f .n1 = omega (arith, within (r .0) (r .1)) in
+        omega (arith, at-rest (subst (λ i. Still f i (replicate 160 0) (replicate 66 0)) (sym is-x) still) k b .0 t, zeros 160 (f .source)),
+    λ h. absurd (omega arith),
+  )
+
+  pub begins : (t y : ℕ) → f .target ≡ t → getD (f .cap) t 0 ≡ y → Sweeping f first more order (set (replicate 160 0) t y) (replicate 160 0) (replicate 66 0) found x t 0
+  begins t y is-t is-y =
+      let d : List ℕ = replicate 160 0 in
+      let e : suc (x - 1) ≡ start f = omega arith in
+      let in-d : t < length d = omega (arith, is-t, l .t-in, l .few, length-replicate {A = ℕ} 160 0) in
+      let now : getD (set d t y) t 0 ≡ y = getD-set-same d t y 0 in-d in
+      let st : Still f (suc (x - 1)) d (replicate 66 0) = subst (λ i. Still f i d (replicate 66 0)) (sym e) still in
+      record {
+        work = rw now (first-in st t y is-t is-y (sym e) (omega arith));
+        some = some;
+        begun = omega arith;
+        chains = ch;
+        room = record { nodes = entry-first; places = places; labels = omega (arith, length-set d t y) };
+        by-order = o;
+        height = shut;
+        done = collecting;
+        within = within;
+      }
+    where
+      collecting : Collects (f .n1) (f .n2) (whole f) (below f x) x found
+      collecting =
+          let c : Collects (f .n1) (f .n2) (below f x) (below f x) x found = collects-none (l .small1) (l .small2) empty in
+          record {
+            long = c .long;
+            small1 = c .small1;
+            small2 = c .small2;
+            done = c .done;
+            begins = c .begins;
+            form = c .form;
+            holding = λ u v. T-ext (whole f u v) (below f x u v) (
+              λ t. ⊎-elim (λ (le : x ≤ u). absurd (omega (arith, shut v .0 (holds-fewer (pathPairs (net f)) x u v le t)))) (λ lt. below-is f x u v .1 (lt, t)) (sides x u),
+              λ t. below-is f x u v .0 t .1,
+            ) ∙ c .holding u v;
+            above = c .above;
+          }

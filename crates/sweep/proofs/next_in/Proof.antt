@@ -1,0 +1,89 @@
+use Rattle.sweep.specs.Sweep.{NextIn}
+use Rattle.laws.specs.Tests.{order as sides}
+use mathlib.Core.Logic.{⊎-elim}
+use mathlib.Core.Path.{subst}
+use mathlib.Core.Path.{_≡_, refl, sym, ap, _∙_}
+use Prim.Native.Nat.{ℕ, suc, _+_, _-_, _*_, _/_, _≤_, _<_}
+use native.Mathlib.Omega.{arith}
+use borrow.Author.Needs.{needs}
+use lib.ListN.{length, getD, set, length-set}
+use Rattle.sweep.proofs.next_in.Statement.{statement}
+use Rattle.sweep.proofs.next_in.Tie as tie
+use Rattle.sweep.proofs.next_in.Reads as reads
+use Rattle.sweep.proofs.next_in.Lts as lts
+use Rattle.slices.proofs.wide.Reads as wide-reads
+
+abbrev Inv-loop : tie.InvT-loop
+Inv-loop order label z last r₀ r = (r ≤ z) × ((k : ℕ) → r ≤ k → k < z → getD label (getD order k 0) 0 ≤ last)
+
+abbrev μ-loop : tie.MeasureT-loop
+μ-loop order label z last r₀ r = r
+
+-- the node at the place looked at
+here : (c : tie.After-wide2 Inv-loop μ-loop) → let a = c .before .before .before .before .before .before .before .args in c .wide2 .result ≡ getD (a .order .now) (c .before .before .before .before .loop .r - 1) 0
+here c = c .wide2 .ensures .0 ∙ ap (λ k. getD (c .before .before .before .before .before .before .before .args .order .now) (k - 1) 0) (c .before .before .wide .ensures .0)
+
+loop-holds : tie.Need-loop-holds Inv-loop μ-loop
+loop-holds c = (omega arith, λ k h i. absurd (omega arith))
+
+wide-requires : tie.Need-wide-requires Inv-loop μ-loop
+wide-requires c κs = search needs
+
+sub-wide : tie.Need-sub-wide Inv-loop μ-loop
+sub-wide c = search needs
+
+shared-slice-read-wide : tie.Need-shared-slice-read-wide Inv-loop μ-loop
+shared-slice-read-wide c = omega (arith, c .before .wide .ensures, c .before .before .before .before .before .before .pre .0, c .before .before .before .loop .inv .0)
+
+wide-requires-2 : tie.Need-wide-requires-2 Inv-loop μ-loop
+wide-requires-2 c κs = search needs
+
+shared-slice-read-if1 : tie.Need-shared-slice-read-if1 Inv-loop μ-loop
+shared-slice-read-if1 c = omega (arith, here (c .before), c .before .before .before .before .before .before .before .before .pre .1 (c .before .before .before .before .before .loop .r - 1) (omega (arith, c .before .before .before .before .before .loop .inv .0)))
+
+returns : tie.Need-returns Inv-loop μ-loop
+returns c =
+    let a = c .before .before .before .before .before .before .before .before .before .args in
+    let l = c .before .before .before .before .before .before .loop in
+    record { most = l .inv .0; none = l .inv .1; found = λ h. subst (λ v. a .last < getD (a .label .now) v 0) (here (c .before .before)) (c .if1 .taken) }
+
+sub-r : tie.Need-sub-r Inv-loop μ-loop
+sub-r c = search needs
+
+loop-less : tie.Need-loop-less Inv-loop μ-loop
+loop-less c = search needs
+
+loop-again : tie.Need-loop-again Inv-loop μ-loop
+loop-again c =
+    let a = c .before .before .before .before .before .before .before .before .before .args in
+    let l = c .before .before .before .before .before .before .loop in (
+      omega (arith, l .inv .0),
+      λ k h i.
+          ⊎-elim (λ (le : l .r ≤ k). l .inv .1 k le i)
+          (λ lt. let e : k ≡ l .r - 1 = omega arith in subst (λ n. getD (a .label .now) (getD (a .order .now) n 0) 0 ≤ a .last) (sym e) (subst (λ v. getD (a .label .now) v 0 ≤ a .last) (here (c .before .before)) (c .if1 .left)))
+          (sides (l .r) k),
+    )
+
+returns-2 : tie.Need-returns-2 Inv-loop μ-loop
+returns-2 c =
+    let l = c .before .loop in
+    let e : l .r ≡ 0 = omega arith in
+    record { most = omega arith; none = λ k h i. l .inv .1 k (omega arith) i; found = λ h. absurd (omega arith) }
+
+pub next-in-spec : {M : Type 1} → statement M
+next-in-spec =
+    tie.close
+    (tie.spec
+    Inv-loop
+    μ-loop
+    loop-holds
+    wide-requires
+    sub-wide
+    shared-slice-read-wide
+    wide-requires-2
+    shared-slice-read-if1
+    returns
+    sub-r
+    loop-less
+    loop-again
+    returns-2)

@@ -1,0 +1,100 @@
+// The search of a round: class 1 positions swept from the largest down, labels for class 2.
+use buffer::LONGEST;
+use front::Pair;
+use front::Pos1;
+use front::Pos2;
+use labels::Step;
+use slices::wide;
+ghost use mathlib.Core.Path.{_≡_};
+ghost use mathlib.Core.List.{[], _∷_, _++_};
+ghost use Prim.Native.Nat.{ℕ, _+_, _*_, _/_, _≤_, _<_};
+ghost use lib.ListN.{length, getD};
+ghost use Rattle.front.specs.Pair.{pairOf};
+ghost use Rattle.front.specs.Front.{AllWithin};
+ghost use Rattle.record.specs.Record.{size1, size2, listed, frontBytes};
+ghost use Rattle.buffer.specs.Buffer.{longest, recordIn, Puttable};
+ghost use Rattle.network.specs.Walk.{pathPairs};
+ghost use Rattle.labels.specs.State.{graphOf, net, Laid, Chains, start};
+ghost use Rattle.sweep.specs.Sweep.{ByOrder, NextIn};
+
+// Puts the pair (x, y), where y is above the last height.
+fn collect(found: &mut [u8; LONGEST], x: u8, y: u8, last: u8)
+    requires { ⌜ (length (now found) ≡ longest) × (last < y → Puttable (now found) (pairOf x y)) ⌝ }
+    ensures long { λ _. ⌜ length (now (found .exit)) ≡ longest ⌝ }
+    ensures same { λ _. ⌜ (y ≤ last → now (found .exit) ≡ now (found .entry)) ⌝ }
+    ensures more { λ _. ⌜ (last < y → recordIn (now (found .exit)) ≡ frontBytes (size1 (now (found .entry))) (size2 (now (found .entry))) (listed (recordIn (now (found .entry))) ++ pairOf x y ∷ [])) ⌝ }
+{
+    if y <= last {
+        return;
+    }
+    buffer::put(found, Pair::new(x, y))
+}
+
+// The next node to enter: the largest place up to z whose node has a label above `last`, or 0.
+fn next_in(order: &[u8], label: &[u8], z: u8, last: u8) -> u8
+    requires { ⌜ (z ≤ length (now order)) × ((k : ℕ) → k < z → getD (now order) k 0 < length (now label)) ⌝ }
+    ensures { λ r. ⌜ NextIn (now (order .entry)) (now (label .entry)) z last r ⌝ }
+{
+    let mut r = z;
+    while 0 < r {
+        let v = wide(order[wide(r) - 1]);
+        if last < label[v] {
+            return r;
+        }
+        r -= 1;
+    }
+    0
+}
+
+// The front record of a network, in a buffer. `begin` is the first step: x at the start, the target
+// entering with its capacity.
+pub fn sweep(
+    arcs: &[u8],
+    entry: &[u8],
+    cap: &[u8],
+    first: &[u16],
+    more: &[u16],
+    order: &[u8],
+    begin: Step,
+) -> [u8; LONGEST]
+    requires laid { ⌜ Laid (graphOf (now arcs) (now entry) (now cap) begin) ⌝ }
+    requires order { ⌜ ByOrder (graphOf (now arcs) (now entry) (now cap) begin) (now order) ⌝ }
+    requires chains { ⌜ Chains (now arcs) (now first) (now more) (length (now arcs) / 2) ⌝ }
+    requires room { ⌜ (length (now entry) ≤ length (now first)) × (length (now arcs) / 2 ≤ length (now more)) ⌝ }
+    requires within { ⌜ AllWithin (begin .n1) (begin .n2) (pathPairs (net (graphOf (now arcs) (now entry) (now cap) begin))) ⌝ }
+    requires begins { ⌜ (begin .x .0 ≡ start (graphOf (now arcs) (now entry) (now cap) begin)) × (0 < begin .x .0) × (begin .target ≡ begin .node) ⌝ }
+    ensures { λ r. ⌜ recordIn r ≡ frontBytes (begin .n1) (begin .n2) (pathPairs (net (graphOf (now (arcs .entry)) (now (entry .entry)) (now (cap .entry)) begin))) ⌝ }
+{
+    let mut label = [0u8; 160];
+    let mut stack = [0u8; 160];
+    let mut wait = [0u8; 66];
+    let mut found = buffer::empty(begin.n1, begin.n2);
+    let t = wide(begin.node);
+    label[t] = cap[t];
+    let mut x = begin.x.0;
+    let mut node = begin.node;
+    let mut last: u8 = 0;
+    loop {
+        let at = labels::step_to(begin, Pos1(x), Pos2(label[wide(node)]), node, 0);
+        labels::flood(
+            arcs,
+            entry,
+            cap,
+            first,
+            more,
+            at,
+            &mut label,
+            &mut stack,
+            &mut wait,
+        );
+        let s = begin.source;
+        let y = label[s];
+        collect(&mut found, x, y, last);
+        last = y;
+        x = next_in(order, &label, x - 1, y);
+        if x == 0 {
+            return found;
+        }
+        node = order[wide(x) - 1];
+    }
+}
