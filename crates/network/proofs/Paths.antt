@@ -2,16 +2,15 @@
 use mathlib.Core.Path.{_≡_, refl, sym, subst}
 use mathlib.Core.Logic.{_↔_, ⊎-elim}
 use mathlib.Core.Bool.{Bool, true, false, not, _&&_, cond}
-use mathlib.Core.List.{List, [], _∷_, _++_, map, List·Memᴰ·head, List·Memᴰ·tail, List·Memᴰ·append-cases, List·Memᴰ·cases-cons, Memᴰ·append-left, Memᴰ·append-right, Memᴰ·cast, Memᴰ·of-map, Memᴰ·map}
+use mathlib.Core.List.{List, [], _∷_, map, List·Memᴰ·head, List·Memᴰ·tail, List·Memᴰ·append-cases, List·Memᴰ·cases-cons, Memᴰ·append-left, Memᴰ·append-right, Memᴰ·cast, Memᴰ·of-map, Memᴰ·map}
 use Prim.Native.Nat.{ℕ, zero, suc, _≤_}
 use native.Mathlib.Omega.{arith}
 use lib.Dec.{T, eqb, eqb→eq, eqb-refl}
 use lib.ListN.{length, length-map}
 use Rattle.laws.specs.Tests.{T-and, decide}
-use Rattle.laws.specs.Members.{_∈_, here, keep, keep-out, keep-in, keep-length, each, each-out, each-in, member, member-out, member-in, without, without-out, without-in, without-length, in-length}
+use Rattle.laws.specs.Members.{_∈_, here, keep-out, keep-in, keep-length, each, each-out, each-in, member, member-out, member-in, without, without-out, without-in, without-length, in-length}
 use Rattle.laws.specs.Pairwise.{Pairwise}
 use Rattle.front.specs.declared.Pair.{Pair}
-use Rattle.front.specs.Pair.{minPair}
 use Rattle.front.specs.Front.{AtMost}
 use Rattle.parts.specs.Study.{Arc}
 use Rattle.network.specs.Walk.{Network, Walk, Path, ends, visits, Differ, pairOn, onward, arrived, pathsFrom, paths}

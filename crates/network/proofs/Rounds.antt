@@ -1,23 +1,23 @@
 -- A round's front: exactly the undominated pairs of its paths, and it holds where direct removal finds the round joined.
-use mathlib.Core.Path.{_≡_, refl, sym, subst}
+use mathlib.Core.Path.{_≡_, sym, subst}
 use mathlib.Core.Logic.{_↔_, ⊎-elim}
 use mathlib.Core.Bool.{Bool, true, false, cond}
 use mathlib.Core.List.{List, [], _∷_, List·Memᴰ·tail, List·Memᴰ·cases-cons, Memᴰ·cast, Memᴰ·of-map, Memᴰ·map}
-use Prim.Native.Nat.{ℕ, zero, suc, _+_, _≤_, _<_}
+use Prim.Native.Nat.{ℕ, zero, suc, _+_, _≤_}
 use native.Mathlib.Omega.{arith}
-use lib.Dec.{T, eqb, ltb, ltb→lt, lt→ltb}
+use lib.Dec.{T, eqb, ltb→lt, lt→ltb}
 use lib.ListN.{length, getD, length-take, length-drop}
 use Rattle.laws.specs.Members.{_∈_, here, any-out, any-in}
 use Rattle.front.specs.declared.Pair.{Pair}
 use Rattle.front.specs.Pair.{pairOf, dominates, holdsAt}
-use Rattle.front.specs.Front.{holds, front, Within, AllWithin, AtMost}
+use Rattle.front.specs.Front.{holds, Within, AllWithin, AtMost}
 use Rattle.front.proofs.Pairs.{holds-is}
 use Rattle.front.proofs.Fronts.{front-are, front-holds, under-front}
-use Rattle.orders.specs.Order.{count, order1, order2, position}
+use Rattle.orders.specs.Order.{order1, order2, position}
 use Rattle.orders.proofs.Places.{position-first}
 use Rattle.parts.specs.Study.{Arc, Study}
 use Rattle.network.specs.Walk.{Network, Walk, Path, visits, pairOn, paths, pathPairs}
-use Rattle.network.specs.Round.{size1, size2, roundAt, works, RoundHolds, capacity, networkIn, roundNetwork, roundFront}
+use Rattle.network.specs.Round.{size1, size2, roundAt, works, RoundHolds, capacity, roundNetwork, roundFront}
 use Rattle.network.proofs.Paths.{paths-are, straighten}
 
 -- ---- the pairs of paths, and where they hold
@@ -44,7 +44,7 @@ pairs-hold net a b = (
 )
 
 -- the least capacity on a walk holds where every capacity on it does
-pub walk-holds : (net : Network) (u : ℕ) (ks : List Arc) (a b : ℕ)
+walk-holds : (net : Network) (u : ℕ) (ks : List Arc) (a b : ℕ)
     → T (holdsAt (pairOn net u ks) a b) ↔ (((v : ℕ) → v ∈ visits u ks → T (holdsAt (net .node v) a b)) × ((k : Arc) → k ∈ ks → T (holdsAt (net .arc (k .place)) a b)))
 walk-holds net u [] a b = (λ t. (λ v m. ⊎-elim (λ e. subst (λ x. T (holdsAt (net .node x) a b)) (sym e) t) (λ q. elim q [ ]) (List·Memᴰ·cases-cons m), λ k m. elim m [ ]), λ h. h .0 u here)
 walk-holds net u (k ∷ ks) a b = (
@@ -70,13 +70,13 @@ position-most v (x ∷ l) = go (eqb x v) (position-most v l)
     go true h = omega arith
     go false h = omega arith
 
-pub capacity-within : (n1 n2 c : ℕ) (o1 o2 : List ℕ) (v : ℕ) → length o1 ≤ n1 → length o2 ≤ n2 → Within n1 n2 (capacity n1 n2 c o1 o2 v)
+capacity-within : (n1 n2 c : ℕ) (o1 o2 : List ℕ) (v : ℕ) → length o1 ≤ n1 → length o2 ≤ n2 → Within n1 n2 (capacity n1 n2 c o1 o2 v)
 capacity-within n1 n2 zero o1 o2 v h k = omega arith
 capacity-within n1 n2 (suc zero) o1 o2 v h k = omega (arith, position-first v o1, position-most v o1)
 capacity-within n1 n2 (suc (suc c)) o1 o2 v h k = omega (arith, position-first v o2, position-most v o2)
 
 -- a node's capacity holds exactly where the node works
-pub capacity-holds : (n1 n2 c : ℕ) (o1 o2 : List ℕ) (v a b : ℕ) → a ≤ n1 → b ≤ n2 → T (holdsAt (capacity n1 n2 c o1 o2 v) a b) ↔ T (works c o1 o2 a b v)
+capacity-holds : (n1 n2 c : ℕ) (o1 o2 : List ℕ) (v a b : ℕ) → a ≤ n1 → b ≤ n2 → T (holdsAt (capacity n1 n2 c o1 o2 v) a b) ↔ T (works c o1 o2 a b v)
 capacity-holds n1 n2 zero o1 o2 v a b h k = (λ t. tt, λ t. holds-is (pairOf (n1 + 1) (n2 + 1)) a b .1 (omega arith, omega arith))
 capacity-holds n1 n2 (suc zero) o1 o2 v a b h k =
     let e = holds-is (pairOf (position v o1) (n2 + 1)) a b in

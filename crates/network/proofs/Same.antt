@@ -1,17 +1,13 @@
 -- Networks of the same arcs and ends whose capacities agree at the nodes have the same pairs.
-use mathlib.Core.Path.{_≡_, refl, sym, ap₂, subst}
-use mathlib.Core.List.{List, [], _∷_, map}
+use mathlib.Core.Path.{_≡_, ap₂}
+use mathlib.Core.List.{List, [], _∷_}
 use Prim.Native.Nat.{ℕ, _<_}
-use Rattle.laws.specs.Members.{_∈_, here, there}
+use Rattle.laws.specs.Members.{_∈_, map-same}
 use Rattle.front.specs.declared.Pair.{Pair}
 use Rattle.front.specs.Pair.{minPair}
 use Rattle.parts.specs.Study.{Arc}
 use Rattle.network.specs.Walk.{Network, Walk, pairOn, paths, pathPairs}
 use Rattle.network.proofs.Paths.{paths-are}
-
-map-same : {A B : Type 0} (f g : A → B) (l : List A) → ((x : A) → x ∈ l → f x ≡ g x) → map f l ≡ map g l
-map-same f g [] h = refl
-map-same f g (x ∷ l) h = ap₂ _∷_ (h x here) (map-same f g l (λ y m. h y (there m)))
 
 module _ (arcs : List Arc) (s t : ℕ) (c : ℕ → Pair) where
   abbrev with-node : (ℕ → Pair) → Network

@@ -1,6 +1,6 @@
 -- Walks and paths (document 01, "Positions, routes and the search"): chains of arcs, the pair of a path, and all paths by enumeration.
 use mathlib.Core.Path.{_≡_}
-use mathlib.Core.Bool.{Bool, _&&_, cond}
+use mathlib.Core.Bool.{_&&_, cond}
 use mathlib.Core.List.{List, [], _∷_, _++_, map}
 use Prim.Native.Nat.{ℕ, zero, suc}
 use lib.Dec.{eqb}
