@@ -2,15 +2,14 @@
 use mathlib.Core.Path.{_≡_, refl, sym, ap, _∙_, subst}
 use mathlib.Core.Logic.{_⊎_, inl, inr, ⊎-elim}
 use mathlib.Core.List.{List, [], _∷_}
-use Prim.Native.Nat.{ℕ, zero, suc, _+_, _-_, _*_, _/_, _≤_, _<_, min, max}
+use Prim.Native.Nat.{ℕ, zero, suc, _+_, _-_, _*_, _/_, _≤_, _<_}
 use native.Mathlib.Omega.{arith}
 use lib.ListN.{length, getD, set, length-set}
 use lib.Seq.{getD-set-same, getD-set-other}
-use Rattle.laws.specs.Tests.{order}
+use Rattle.laws.specs.Tests.{order, equal}
 use Rattle.labels.specs.Labels.{Held, held-lower, held-t, pair-first}
-use Rattle.labels.specs.State.{Graph, Laid, Chains, from, to, net, low, Quiet, Ripe, Waits, Why, quiet, piled, waits, left, Named, Marked, Work, Kept, Next, Still, Room, Lengths, start}
-use Rattle.labels.proofs.Links.{same?}
-use Rattle.labels.proofs.Spreads.{low-less, low-short}
+use Rattle.labels.specs.State.{Graph, Chains, to, net, low, Quiet, Ripe, Why, quiet, piled, waits, left, Named, Work, Kept, Next, Still, Room, Lengths, start}
+use Rattle.labels.proofs.Spreads.{low-less}
 
 -- ---- the same labels with another stack
 module _ {f : Graph} {a l : ℕ} {d stack wait : List ℕ} {top v i : ℕ} (w : Work f a l d stack wait top v i) where
@@ -68,7 +67,7 @@ pop {f} {first} {more} ch {a} {l} {d} {stack} {wait} {top} w k is u is-u =
     go j h (left e b) = absurd (omega arith)
 
 -- no chain is at work
-pub anew : {f : Graph} {a l : ℕ} {d stack wait : List ℕ} {top v : ℕ} → Work f a l d stack wait top v 0 → Work f a l d stack wait top 0 0
+anew : {f : Graph} {a l : ℕ} {d stack wait : List ℕ} {top v : ℕ} → Work f a l d stack wait top v 0 → Work f a l d stack wait top 0 0
 anew {f} {a} {l} {d} {stack} {wait} {top} {v} w = refit w stack top 0 0 (w .fits) (w .pile) (λ h. absurd (omega arith)) go
   where
     go : (j : ℕ) → j < length (f .arcs) / 2 → Why f l d stack wait top v 0 j → Why f l d stack wait top 0 0 j
@@ -88,9 +87,13 @@ rest {f} {a} {l} {d} {stack} {wait} {top} w enough = refit w [] 0 0 0 (omega (ar
     go j h (left e b) = absurd (omega arith)
 
 pub record Draining (f : Graph) (first more : List ℕ) (a l : ℕ) (d₀ stack₀ wait₀ d stack wait : List ℕ) (top : ℕ) : Type 0 where
+  -- the labels, no chain at work
   pub work : Work f a l d stack wait top 0 0
+  -- as long as at the start
   pub lengths : Lengths d₀ stack₀ wait₀ d stack wait
+  -- the chains
   pub chains : Chains (f .arcs) first more (length (f .arcs) / 2)
+  -- room for them and on the stack
   pub room : Room (f .arcs) (f .entry) first more d stack
 
 pub drained : {f : Graph} {first more : List ℕ} {a l : ℕ} {d₀ stack₀ wait₀ d stack wait : List ℕ} {top : ℕ} → Draining f first more a l d₀ stack₀ wait₀ d stack wait top
@@ -105,8 +108,11 @@ drained n w k =
 
 -- ---- the level below
 pub record Seeking (wait : List ℕ) (l m : ℕ) : Type 0 where
+  -- below the level that is done
   pub low : m < l
+  -- no level waits in between
   pub none : (c : ℕ) → m < c → c < l → getD wait c 0 ≡ 0
+  -- every level has a mark
   pub long : 66 ≤ length wait
 
 pub sought : {wait : List ℕ} {l m : ℕ} → Seeking wait l m → (floor : ℕ) → floor < m → (getD wait m 0 ≡ 0 → ⊥) → Next wait l floor m
@@ -152,7 +158,7 @@ module _ {f : Graph} {a l : ℕ} {d wait : List ℕ} (w : Work f a l d [] wait 0
     pub in-wait : p < length wait
     in-wait = omega (arith, named .below, w .laid .small2, w .long-wait)
 
-    pub descend : Work f a m d (y ∷ []) (set wait p 0) 1 0 0
+    descend : Work f a m d (y ∷ []) (set wait p 0) 1 0 0
     descend =
         rw is (record {
           laid = w .laid;
@@ -174,7 +180,7 @@ module _ {f : Graph} {a l : ℕ} {d wait : List ℕ} (w : Work f a l d [] wait 0
         kept : (c x : ℕ) → getD (set wait m 0) c 0 ≡ suc x → getD wait c 0 ≡ suc x
         kept c x z =
             ⊎-elim (λ e. absurd (omega (arith, z, ap (λ k. getD (set wait m 0) k 0) e, getD-set-same wait m 0 0 (omega (arith, named .below, w .laid .small2, w .long-wait)))))
-            (λ ne. sym (getD-set-other wait m c 0 0 ne) ∙ z) (same? c m)
+            (λ ne. sym (getD-set-other wait m c 0 0 ne) ∙ z) (equal c m)
 
         pile : (k : ℕ) → k < 1 → Ripe f a m d (getD (y ∷ []) k 0)
         pile zero b = record { node = named .node; at = named .label; in-it = omega (arith, w .early, w .laid .apart y (named .node) (omega (arith, named .full, named .below))) }
@@ -190,14 +196,19 @@ module _ {f : Graph} {a l : ℕ} {d wait : List ℕ} (w : Work f a l d [] wait 0
             (λ le.
             ⊎-elim
             (λ e. piled 0 (omega arith) (w .laid .only y (to (f .arcs) j) (named .node) (w .laid .ends (2 * j + 1) (omega arith)) (named .full ∙ sym (x .full ∙ e)) (omega (arith, named .full, named .below))))
-            (λ ne. waits (record { below = omega arith; full = x .full; flag = λ q. x .flag (sym (getD-set-other wait m z 0 0 ne) ∙ q) })) (same? z m))
+            (λ ne. waits (record { below = omega arith; full = x .full; flag = λ q. x .flag (sym (getD-set-other wait m z 0 0 ne) ∙ q) })) (equal z m))
             (λ lt. absurd (x .flag (n .none z (omega (arith, n .found h)) (x .below)))) (order z m)
 
 pub record Flooding (f : Graph) (first more : List ℕ) (a : ℕ) (d₀ stack₀ wait₀ d stack wait : List ℕ) (l v : ℕ) : Type 0 where
+  -- the labels, with v alone on the stack
   pub work : Work f a l d (v ∷ []) wait 1 0 0
+  -- as long as at the start
   pub lengths : Lengths d₀ stack₀ wait₀ d stack wait
+  -- the chains
   pub chains : Chains (f .arcs) first more (length (f .arcs) / 2)
+  -- room for them and on the stack
   pub room : Room (f .arcs) (f .entry) first more d stack
+  -- both ends are in
   pub begun : a < start f
 
 pub joined : {a b c d e g h i j : List ℕ} → Lengths a b c d e g → Lengths d e g h i j → Lengths a b c h i j
@@ -219,21 +230,6 @@ flooded n {d₁} {stack₁} {wait₁} w k x h p is y is-y =
 module _ {f : Graph} {a : ℕ} {d wait : List ℕ} (s : Still f (suc a) d wait) where
   lower : Held (net f) a (λ v. getD d v 0)
   lower = held-lower (net f) a (λ v. getD d v 0) (s .held)
-
-  -- s or t is not in yet
-  pub not-yet : start f ≤ a → Still f a d wait
-  not-yet h =
-      record {
-        laid = s .laid;
-        long = s .long;
-        short = s .short;
-        long-wait = s .long-wait;
-        held = lower;
-        at-t = λ b. absurd (omega arith);
-        clear = λ _. s .clear (omega arith);
-        marked = s .marked;
-        calm = λ j b e. omega (arith, s .clear (omega arith) (to (f .arcs) j));
-      }
 
   -- both are in: t has its capacity
   module _ (t y : ℕ) (is-t : f .target ≡ t) (is-y : getD (f .cap) t 0 ≡ y) (e : start f ≡ suc a) (h : a ≤ f .n1) where
@@ -272,12 +268,12 @@ module _ {f : Graph} {a : ℕ} {d wait : List ℕ} (s : Still f (suc a) d wait) 
           pile = pile-t;
           going = λ z. absurd (omega arith);
           marked = λ c x z. let m = s .marked c x z in absurd (omega (arith, m .some, m .label, zero-at x));
-          why = λ j b q. ⊎-elim (λ i. piled 0 (omega arith) (sym i)) (λ ne. quiet (omega (arith, other (to (f .arcs) j) ne, zero-at (to (f .arcs) j)))) (same? (to (f .arcs) j) t);
+          why = λ j b q. ⊎-elim (λ i. piled 0 (omega arith) (sym i)) (λ ne. quiet (omega (arith, other (to (f .arcs) j) ne, zero-at (to (f .arcs) j)))) (equal (to (f .arcs) j) t);
         }
 
   -- the node w that enters, the only one of its class 1 position
   module _ (h : suc a < start f) (w : ℕ) (node : w < length (f .entry)) (at : getD (f .entry) w 0 ≡ suc a) (alone : (v : ℕ) → v < length (f .entry) → getD (f .entry) v 0 ≡ suc a → w ≡ v) where
-    pub enters : w < length d
+    enters : w < length d
     enters = omega (arith, node, s .long)
 
     by : (j : ℕ) → j < length (f .arcs) / 2 → a < getD (f .entry) (to (f .arcs) j) 0 → Quiet f d j ⊎ (w ≡ to (f .arcs) j)
@@ -325,16 +321,3 @@ module _ {f : Graph} {a : ℕ} {d wait : List ℕ} (s : Still f (suc a) d wait) 
 
 pub unset : (stack : List ℕ) (v : ℕ) {d wait d₁ stack₁ wait₁ : List ℕ} → Lengths d (set stack 0 v) wait d₁ stack₁ wait₁ → Lengths d stack wait d₁ stack₁ wait₁
 unset stack v x = record { labels = x .labels; pile = x .pile ∙ length-set stack 0 v; levels = x .levels }
-
-pub unlabel : (d : List ℕ) (t y : ℕ) {stack wait d₁ stack₁ wait₁ : List ℕ} → Lengths (set d t y) stack wait d₁ stack₁ wait₁ → Lengths d stack wait d₁ stack₁ wait₁
-unlabel d t y x = record { labels = x .labels ∙ length-set d t y; pile = x .pile; levels = x .levels }
-
-pub roomy : {arcs entry first more d stack : List ℕ} (t y : ℕ) → Room arcs entry first more d stack → Room arcs entry first more (set d t y) stack
-roomy t y r = record { nodes = r .nodes; places = r .places; labels = rw length-set (r .labels) }
-
-pub unchanged : (d stack wait : List ℕ) → Lengths d stack wait d stack wait
-unchanged d stack wait = record { labels = refl; pile = refl; levels = refl }
-
-pub pos-of : (x : ℕ) → (x ≡ 0 → ⊥) → 0 < x
-pos-of zero n = absurd (n refl)
-pos-of (suc x) n = omega arith

@@ -1,18 +1,13 @@
 -- The steps of `link`'s loop, over lists: one place more at the head of its chain.
-use mathlib.Core.Path.{_≡_, refl, sym, ap, _∙_, subst}
-use mathlib.Core.Logic.{_⊎_, inl, inr, ⊎-elim}
+use mathlib.Core.Path.{_≡_, sym, ap, _∙_, subst}
+use mathlib.Core.Logic.{⊎-elim}
 use mathlib.Core.List.{List}
-use Prim.Native.Nat.{ℕ, suc, _+_, _*_, _/_, _≤_, _<_}
+use Prim.Native.Nat.{ℕ, _+_, _*_, _/_, _≤_, _<_}
 use native.Mathlib.Omega.{arith}
-use lib.Dec.{eqb, eqb→eq}
 use lib.ListN.{length, getD, set, length-set}
 use lib.Seq.{getD-set-same, getD-set-other}
-use Rattle.laws.specs.Tests.{order, decide}
-use Rattle.labels.specs.Labels.{eq-T}
+use Rattle.laws.specs.Tests.{order, equal}
 use Rattle.labels.specs.State.{Chains, to}
-
-pub same? : (x y : ℕ) → (x ≡ y) ⊎ (x ≡ y → ⊥)
-same? x y = ⊎-elim (λ t. inl (eqb→eq x y t)) (λ n. inr (λ e. n (eq-T x y e))) (decide (eqb x y))
 
 pub unlinked : (arcs first more : List ℕ) → ((v : ℕ) → getD first v 0 ≡ 0) → Chains arcs first more 0
 unlinked arcs first more z =
@@ -24,7 +19,7 @@ unlinked arcs first more z =
     }
 
 module _ {arcs first more : List ℕ} {n : ℕ} (c : Chains arcs first more n) (v : ℕ) (is : v ≡ to arcs n) (room : n < length more) (node : v < length first) where
-  pub linked : Chains arcs (set first v (n + 1)) (set more n (getD first v 0)) (n + 1)
+  linked : Chains arcs (set first v (n + 1)) (set more n (getD first v 0)) (n + 1)
   linked =
       let now-f : getD (set first v (n + 1)) v 0 ≡ n + 1 = getD-set-same first v (n + 1) 0 node in
       let now-m : getD (set more n (getD first v 0)) n 0 ≡ getD first v 0 = getD-set-same more n (getD first v 0) 0 room in
@@ -33,27 +28,35 @@ module _ {arcs first more : List ℕ} {n : ℕ} (c : Chains arcs first more n) (
       record {
         head = λ j h.
             ⊎-elim (λ e. omega (arith, ap (λ x. getD (set first v (n + 1)) x 0) e))
-            (λ ne. ⊎-elim (λ le. let i : j ≡ n = omega arith in absurd (ne (ap (to arcs) i ∙ sym is))) (λ lt. omega (arith, other-f (to arcs j) ne, c .head j lt)) (order n j)) (same? (to arcs j) v);
+            (λ ne. ⊎-elim (λ le. let i : j ≡ n = omega arith in absurd (ne (ap (to arcs) i ∙ sym is))) (λ lt. omega (arith, other-f (to arcs j) ne, c .head j lt)) (order n j)) (equal (to arcs j) v);
         head-is = λ x p e.
             ⊎-elim (λ i. let q : p ≡ n = omega (arith, ap (λ x. getD (set first v (n + 1)) x 0) i) in (omega arith, ap (to arcs) q ∙ sym is ∙ sym i))
-            (λ ne. let r = c .head-is x p (sym (other-f x ne) ∙ e) in (omega arith, r .1)) (same? x v);
+            (λ ne. let r = c .head-is x p (sym (other-f x ne) ∙ e) in (omega arith, r .1)) (equal x v);
         gap = λ j p h k e.
             ⊎-elim (λ i. let q : to arcs j ≡ v = e ∙ ap (to arcs) i ∙ sym is in omega (arith, ap (λ x. getD (set more n (getD first v 0)) x 0) i, c .head j (omega arith), ap (λ x. getD first x 0) q))
-            (λ ne. omega (arith, other-m p ne, c .gap j p h (omega arith) e)) (same? p n);
+            (λ ne. omega (arith, other-m p ne, c .gap j p h (omega arith) e)) (equal p n);
         back = λ p q h e.
             ⊎-elim (λ i. let r = c .head-is v q (sym now-m ∙ ap (λ x. getD (set more n (getD first v 0)) x 0) (sym i) ∙ e) in (omega arith, r .1 ∙ is ∙ ap (to arcs) (sym i)))
-            (λ ne. c .back p q (omega arith) (sym (other-m p ne) ∙ e)) (same? p n);
+            (λ ne. c .back p q (omega arith) (sym (other-m p ne) ∙ e)) (equal p n);
       }
 
 -- the first i places are linked
 pub record Linking (arcs first₀ more₀ first more : List ℕ) (n i : ℕ) : Type 0 where
+  -- as many as there are arcs
   pub count : n ≡ length arcs / 2
+  -- i of them done
   pub upto : i ≤ n
+  -- as many heads
   pub long1 : length first ≡ length first₀
+  -- as many links
   pub long2 : length more ≡ length more₀
+  -- a place fits a link
   pub few : length arcs ≤ 2048
+  -- arcs lead to nodes that have a head
   pub ends : (i : ℕ) → i < length arcs → getD arcs i 0 < length first
+  -- a link for every arc
   pub room : n ≤ length more
+  -- the first i places are linked
   pub chains : Chains arcs first more i
 
 module _ {arcs first₀ more₀ first more : List ℕ} {n i : ℕ} (k : Linking arcs first₀ more₀ first more n i) (h : i < n) (v : ℕ) (is : v ≡ to arcs i) where

@@ -1,31 +1,29 @@
 -- The steps of `spread`'s loop, over lists: an arc that raises nothing, and the three kinds of raise.
 use mathlib.Core.Path.{_≡_, refl, sym, ap, _∙_, subst}
-use mathlib.Core.Logic.{_⊎_, inl, inr, ⊎-elim}
+use mathlib.Core.Logic.{⊎-elim}
 use mathlib.Core.List.{List, [], _∷_}
-use Prim.Native.Nat.{ℕ, zero, suc, _+_, _-_, _*_, _/_, _≤_, _<_, min, max}
+use Prim.Native.Nat.{ℕ, zero, suc, _+_, _-_, _*_, _/_, _≤_, _<_, min}
 use native.Mathlib.Omega.{arith}
 use lib.ListN.{length, getD, set, length-set}
 use lib.Seq.{getD-set-same, getD-set-other}
-use Rattle.laws.specs.Tests.{order}
+use Rattle.laws.specs.Tests.{order, equal}
 use Rattle.laws.specs.Members.{_∈_}
-use Rattle.parts.specs.Study.{Arc, arcsFrom}
-use Rattle.labels.proofs.Arcs.{arcIn, arcs-in}
 use Rattle.labels.specs.Labels.{Held, held-raise}
-use Rattle.labels.specs.State.{Graph, Laid, Chains, from, to, net, low, Quiet, Ripe, Waits, Why, quiet, piled, waits, left, Named, Marked, Work, Kept}
-use Rattle.labels.proofs.Links.{same?}
+use Rattle.labels.specs.State.{Graph, Chains, from, to, net, low, Quiet, Ripe, Why, quiet, piled, waits, left, Marked, Work, Kept}
+use Rattle.labels.proofs.Arcs.{arcs-in}
 
 -- ---- the count of low labels
-pub low-set : (l u y : ℕ) (d : List ℕ) → u < length d → getD d u 0 < l → l ≤ y → low l (set d u y) + 1 ≡ low l d
+low-set : (l u y : ℕ) (d : List ℕ) → u < length d → getD d u 0 < l → l ≤ y → low l (set d u y) + 1 ≡ low l d
 low-set l u y [] h k i = absurd (omega arith)
 low-set l zero y (x ∷ d) h k i = omega arith
 low-set l (suc u) y (x ∷ d) h k i = omega (arith, low-set l u y d (omega arith) k i)
 
-pub low-grow : (l u y : ℕ) (d : List ℕ) → u < length d → getD d u 0 ≤ y → low l (set d u y) ≤ low l d
+low-grow : (l u y : ℕ) (d : List ℕ) → u < length d → getD d u 0 ≤ y → low l (set d u y) ≤ low l d
 low-grow l u y [] h k = absurd (omega arith)
 low-grow l zero y (x ∷ d) h k = omega arith
 low-grow l (suc u) y (x ∷ d) h k = omega (arith, low-grow l u y d (omega arith) k)
 
-pub low-short : (l : ℕ) (d : List ℕ) → low l d ≤ length d
+low-short : (l : ℕ) (d : List ℕ) → low l d ≤ length d
 low-short l [] = omega arith
 low-short l (x ∷ d) = omega (arith, low-short l d)
 
@@ -92,7 +90,7 @@ module _ {f : Graph} {a l : ℕ} {d stack wait : List ℕ} {top v i : ℕ} (w : 
   other x = getD-set-other d u x c 0
 
   grow : (x : ℕ) → getD d x 0 ≤ getD (set d u c) x 0
-  grow x = ⊎-elim (λ e. omega (arith, at-u, rise, ap (λ k. getD d k 0) e, ap (λ k. getD (set d u c) k 0) e)) (λ n. omega (arith, other x n)) (same? x u)
+  grow x = ⊎-elim (λ e. omega (arith, at-u, rise, ap (λ k. getD d k 0) e, ap (λ k. getD (set d u c) k 0) e)) (λ n. omega (arith, other x n)) (equal x u)
 
   ripe : (x : ℕ) → Ripe f a l d x → Ripe f a l (set d u c) x
   ripe x r = record { node = r .node; at = other x (λ e. omega (arith, ap (λ k. getD d k 0) e, r .at, rise, is-c)) ∙ r .at; in-it = r .in-it }
@@ -142,7 +140,7 @@ module _ {f : Graph} {a l : ℕ} {d stack wait : List ℕ} {top v i : ℕ} (w : 
           pile = λ k h. ⊎-elim (λ le. fresh k le h) (λ lt. rw (same k lt) (ripe (getD stack k 0) (w .pile k lt))) (order top k);
           going = λ h. let g = w .going h in (ripe v (g .0), g .1, g .2);
           marked = mark′;
-          why = λ j h e. ⊎-elim (new j e) (λ n. go j n (w .why j h e)) (same? (to (f .arcs) j) u);
+          why = λ j h e. ⊎-elim (new j e) (λ n. go j n (w .why j h e)) (equal (to (f .arcs) j) u);
         }
       where
         go : (j : ℕ) → (to (f .arcs) j ≡ u → ⊥) → Why f l d stack wait top v i j → Why f l (set d u c) stack′ wait′ top′ v i j
@@ -167,12 +165,12 @@ module _ {f : Graph} {a l : ℕ} {d stack wait : List ℕ} {top v i : ℕ} (w : 
       let now : getD wait′ c 0 ≡ u + 1 = getD-set-same wait c (u + 1) 0 in-wait in
       let old : (x : ℕ) → (x ≡ c → ⊥) → getD wait′ x 0 ≡ getD wait x 0 = λ x. getD-set-other wait c x (u + 1) 0 in
       raised stack wait′ top (rw length-set (w .long-wait)) (omega (arith, w .fits, low-grow l u c d in-d (omega arith))) (λ k h. refl) (omega arith) (λ k h m. absurd (omega arith))
-      (λ x n z. ⊎-elim (λ e. omega (arith, now, ap (λ k. getD wait′ k 0) e)) (λ ne. n (sym (old x ne) ∙ z)) (same? x c))
+      (λ x n z. ⊎-elim (λ e. omega (arith, now, ap (λ k. getD wait′ k 0) e)) (λ ne. n (sym (old x ne) ∙ z)) (equal x c))
       (λ x y n. ⊎-elim
       (λ e.
       let is-y : y ≡ u = omega (arith, n, now, ap (λ k. getD wait′ k 0) e) in
       record { some = omega arith; below = omega (arith, w .high); node = rw is-y node; label = ap (λ k. getD (set d u c) k 0) is-y ∙ at-u ∙ sym e; full = ap (λ k. getD (f .cap) k 0) is-y ∙ omega arith })
-      (λ ne. mark x y (sym (old x ne) ∙ n)) (same? x c))
+      (λ ne. mark x y (sym (old x ne) ∙ n)) (equal x c))
       (λ j e q. let r : getD (set d u c) (to (f .arcs) j) 0 ≡ c = ap (λ k. getD (set d u c) k 0) q ∙ at-u in
       waits (record { below = omega arith; full = ap (λ k. getD (f .cap) k 0) q ∙ omega arith ∙ sym r; flag = λ z. omega (arith, now, ap (λ k. getD wait′ k 0) r) }))
 
@@ -189,10 +187,15 @@ module _ {f : Graph} {a l : ℕ} {d stack wait : List ℕ} {top v i : ℕ} (w : 
 
 -- ---- the loop
 pub record Spreading (f : Graph) (first more : List ℕ) (a l : ℕ) (d₀ stack₀ wait₀ : List ℕ) (top₀ : ℕ) (d stack wait : List ℕ) (top v i : ℕ) : Type 0 where
+  -- the labels while the chain is followed
   pub work : Work f a l d stack wait top v i
+  -- what they are to those at the start
   pub kept : Kept l d₀ stack₀ wait₀ top₀ d stack wait top
+  -- the chains
   pub chains : Chains (f .arcs) first more (length (f .arcs) / 2)
+  -- the stack holds every node
   pub room : length d ≤ length stack
+  -- a link for every arc
   pub many : length (f .arcs) / 2 ≤ length more
 
 module _ {f : Graph} {first more : List ℕ} {a l : ℕ} {d₀ stack₀ wait₀ : List ℕ} {top₀ : ℕ} {d stack wait : List ℕ} {top v i : ℕ}
@@ -205,10 +208,15 @@ module _ {f : Graph} {first more : List ℕ} {a l : ℕ} {d₀ stack₀ wait₀ 
 
 -- a turn: the arc at p, what follows it in its chain, its start u, and what the level gives u
 pub record Turn (f : Graph) (first more : List ℕ) (a l : ℕ) (d₀ stack₀ wait₀ : List ℕ) (top₀ : ℕ) (d stack wait : List ℕ) (top v i p m u c : ℕ) : Type 0 where
+  -- the labels before the arc
   pub state : Spreading f first more a l d₀ stack₀ wait₀ top₀ d stack wait top v i
+  -- p is the arc's place
   pub is-p : i ≡ suc p
+  -- m is the next in the chain
   pub is-m : m ≡ getD more p 0
+  -- u is where the arc comes from
   pub is-u : u ≡ from (f .arcs) p
+  -- c is what u would be raised to
   pub is-c : c ≡ min l (getD (f .cap) u 0)
 
 module _ {f : Graph} {first more : List ℕ} {a l : ℕ} {d₀ stack₀ wait₀ : List ℕ} {top₀ : ℕ} {d stack wait : List ℕ} {top v i p m u c : ℕ}

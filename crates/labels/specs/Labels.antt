@@ -4,17 +4,14 @@ use mathlib.Core.Logic.{_↔_, ⊎-elim}
 use mathlib.Core.List.{List, [], _∷_}
 use Prim.Native.Nat.{ℕ, suc, _≤_, _<_, min, max}
 use native.Mathlib.Omega.{arith}
-use lib.Dec.{T, eqb, eqb→eq, eqb-refl}
-use Rattle.laws.specs.Tests.{decide}
+use lib.Dec.{T}
+use Rattle.laws.specs.Tests.{equal}
 use Rattle.laws.specs.Members.{_∈_}
 use Rattle.front.specs.Front.{holds}
 use Rattle.front.proofs.Pairs.{holds-is}
 use Rattle.parts.specs.Study.{Arc}
 use Rattle.network.specs.Walk.{Network, Walk, pairOn, pathPairs}
 use Rattle.network.proofs.Rounds.{pairs-hold}
-
-pub eq-T : (m n : ℕ) → m ≡ n → T (eqb m n)
-eq-T m n e = subst (λ k. T (eqb m k)) e (eqb-refl m)
 
 -- a walk is worth at most its first node
 pub pair-first : (net : Network) (v : ℕ) (ks : List Arc) → pairOn net v ks .p2 .0 ≤ net .node v .p2 .0
@@ -36,8 +33,11 @@ module _ (net : Network) (a : ℕ) where
 
   -- t has its capacity, and no arc into a node that is in raises a label above that of s
   pub record Calm (d : ℕ → ℕ) : Type 0 where
+    -- a source that has a label is in
     pub s-in : 0 < d (net .source) → a < net .node (net .source) .p1 .0
+    -- the target has its capacity
     pub at-t : In → net .node (net .target) .p2 .0 ≤ d (net .target)
+    -- no arc raises a label above that of the source
     pub by-arc : In → (k : Arc) → k ∈ net .arcs → a < net .node (k .to) .p1 .0
         → min (net .node (k .from) .p2 .0) (min (net .arc (k .place) .p2 .0) (d (k .to))) ≤ max (d (k .from)) (d (net .source))
 
@@ -67,8 +67,7 @@ module _ (net : Network) (a : ℕ) where
   module _ (d e : ℕ → ℕ) (so : Held d) where
     held-at : (u : ℕ) → ((v : ℕ) → (v ≡ u → ⊥) → e v ≡ d v) → Good u (e u) → Held e
     held-at u other w v h =
-        ⊎-elim (λ t. subst (λ x. Good x (e x)) (sym (eqb→eq v u t)) w)
-        (λ n. let q = other v (λ i. n (eq-T v u i)) in let r = so v (omega arith) in (r .0, r .1, r .2, omega arith)) (decide (eqb v u))
+        ⊎-elim (λ i. subst (λ x. Good x (e x)) (sym i) w) (λ n. let q = other v n in let r = so v (omega arith) in (r .0, r .1, r .2, omega arith)) (equal v u)
 
     pub held-t : ((v : ℕ) → (v ≡ net .target → ⊥) → e v ≡ d v) → e (net .target) ≤ net .node (net .target) .p2 .0 → Held e
     held-t other k = held-at (net .target) other ([], refl, omega arith, k)

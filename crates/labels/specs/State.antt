@@ -11,12 +11,19 @@ use Rattle.labels.specs.Labels.{Held}
 
 -- all that stays as it is during a search: arc bytes, each node's class 1 and class 2 capacity, the ends, the class sizes
 pub record Graph : Type 0 where
+  -- two bytes an arc, from and to
   pub arcs : List ℕ
+  -- class 1 capacities
   pub entry : List ℕ
+  -- class 2 capacities
   pub cap : List ℕ
+  -- 01: s
   pub source : ℕ
+  -- 01: t
   pub target : ℕ
+  -- nodes of class 1
   pub n1 : ℕ
+  -- nodes of class 2
   pub n2 : ℕ
 
 -- as the code has it
@@ -48,24 +55,40 @@ to arcs j = getD arcs (2 * j + 1) 0
 
 -- what the search is given: ends of arcs are nodes, capacities are in range, and no two nodes share a class 2 position
 pub record Laid (f : Graph) : Type 0 where
+  -- a capacity of both classes for every node
   pub same : length (f .cap) ≡ length (f .entry)
+  -- 01: N
   pub few : length (f .entry) ≤ 160
+  -- 01: A, two bytes each
   pub many : length (f .arcs) ≤ 2048
+  -- arcs lead between nodes
   pub ends : (i : ℕ) → i < length (f .arcs) → getD (f .arcs) i 0 < length (f .entry)
+  -- the source is a node
   pub s-in : f .source < length (f .entry)
+  -- the target is a node
   pub t-in : f .target < length (f .entry)
+  -- the target's label is a label
   pub t-pos : 0 < getD (f .cap) (f .target) 0
+  -- 01: n1
   pub small1 : f .n1 ≤ 64
+  -- 01: n2
   pub small2 : f .n2 ≤ 64
+  -- no class 2 capacity is above n2 + 1
   pub high : (v : ℕ) → v < length (f .entry) → getD (f .cap) v 0 ≤ suc (f .n2)
+  -- each class 2 position has one node
   pub only : (u v : ℕ) → u < length (f .entry) → v < length (f .entry) → getD (f .cap) u 0 ≡ getD (f .cap) v 0 → getD (f .cap) u 0 ≤ f .n2 → u ≡ v
+  -- no node is of both classes
   pub apart : (v : ℕ) → v < length (f .entry) → getD (f .cap) v 0 ≤ f .n2 → f .n1 < getD (f .entry) v 0
 
 -- the first n places, each in the chain of the node that its arc leads to, the later place first; a place is kept as one more, and 0 ends a chain
 pub record Chains (arcs first more : List ℕ) (n : ℕ) : Type 0 where
+  -- every place is in reach of the head of its node's chain
   pub head : (j : ℕ) → j < n → j < getD first (to arcs j) 0
+  -- the head of a node's chain is a place of an arc into it
   pub head-is : (v p : ℕ) → getD first v 0 ≡ suc p → (p < n) × (to arcs p ≡ v)
+  -- from a place on, no earlier place into the same node is jumped over
   pub gap : (j p : ℕ) → j < p → p < n → to arcs j ≡ to arcs p → j < getD more p 0
+  -- the next place in a chain is earlier and into the same node
   pub back : (p q : ℕ) → p < n → getD more p 0 ≡ suc q → (q < p) × (to arcs q ≡ to arcs p)
 
 -- how many labels are below l
@@ -79,14 +102,20 @@ Quiet f d j = min (getD (f .cap) (from (f .arcs) j) 0) (getD d (to (f .arcs) j) 
 
 -- w is in, and its label is l
 pub record Ripe (f : Graph) (a l : ℕ) (d : List ℕ) (w : ℕ) : Type 0 where
+  -- a node of the network
   pub node : w < length (f .entry)
+  -- labelled with the level
   pub at : getD d w 0 ≡ l
+  -- its class 1 position is above a
   pub in-it : a < getD (f .entry) w 0
 
 -- w's label is its capacity, below l, and that level waits
 pub record Waits (f : Graph) (l : ℕ) (d wait : List ℕ) (w : ℕ) : Type 0 where
+  -- under the level that spreads
   pub below : getD d w 0 < l
+  -- no more than its own capacity
   pub full : getD (f .cap) w 0 ≡ getD d w 0
+  -- its level is marked
   pub flag : getD wait (getD d w 0) 0 ≡ 0 → ⊥
 
 -- why the arc at j needs no look now: it is quiet, or the node it leads to is on the stack, or waits, or is at work and the arc is left in its chain
@@ -98,10 +127,15 @@ pub data Why (f : Graph) (l : ℕ) (d stack wait : List ℕ) (top v i j : ℕ) :
 
 -- the levels that wait: each names, as one more, the class 2 node of that position, which has its label
 pub record Named (f : Graph) (d : List ℕ) (c w : ℕ) : Type 0 where
+  -- a level is above 0
   pub some : 0 < c
+  -- and of class 2
   pub below : c ≤ f .n2
+  -- what waits is a node
   pub node : w < length (f .entry)
+  -- with the level for a label
   pub label : getD d w 0 ≡ c
+  -- which is its capacity
   pub full : getD (f .cap) w 0 ≡ c
 
 abbrev pub Marked : Graph → List ℕ → List ℕ → Type 0
@@ -109,24 +143,40 @@ Marked f d wait = (c w : ℕ) → getD wait c 0 ≡ suc w → Named f d c w
 
 -- the labels while level l spreads after a failures, with v at work at place i - 1 of its chain (i = 0: none)
 pub record Work (f : Graph) (a l : ℕ) (d stack wait : List ℕ) (top v i : ℕ) : Type 0 where
+  -- what the search is given
   pub laid : Laid f
+  -- every node has a label
   pub long : length (f .entry) ≤ length d
+  -- no more labels than nodes can be
   pub short : length d ≤ 160
+  -- every level has a mark
   pub long-wait : 66 ≤ length wait
+  -- each label has a walk to the target
   pub held : Held (net f) a (λ v. getD d v 0)
+  -- no more failures than class 1 has
   pub early : a ≤ f .n1
+  -- the level is above 0
   pub some : 0 < l
+  -- and at most n2 + 1
   pub high : l ≤ suc (f .n2)
+  -- the target has its capacity
   pub at-t : getD (f .cap) (f .target) 0 ≤ getD d (f .target) 0
+  -- the stack has room for every node below the level
   pub fits : top + low l d ≤ length d
+  -- on the stack: nodes that are in, at this level
   pub pile : (k : ℕ) → k < top → Ripe f a l d (getD stack k 0)
+  -- the node at work is one of them, and place i - 1 is in its chain
   pub going : 0 < i → Ripe f a l d v × (i ≤ length (f .arcs) / 2) × (to (f .arcs) (i - 1) ≡ v)
+  -- what waits is named
   pub marked : Marked f d wait
+  -- every arc into a node that is in is seen to
   pub why : (j : ℕ) → j < length (f .arcs) / 2 → a < getD (f .entry) (to (f .arcs) j) 0 → Why f l d stack wait top v i j
 
 -- the largest level that waits, between floor and l, or 0
 pub record Next (wait : List ℕ) (l floor r : ℕ) : Type 0 where
+  -- no level waits above it
   pub none : (c : ℕ) → max r floor < c → c < l → getD wait c 0 ≡ 0
+  -- it is above the floor, below l, and waits
   pub found : 0 < r → (floor < r) × (r < l) × (getD wait r 0 ≡ 0 → ⊥)
 
 -- where the sweep begins: s and t are in below it
@@ -135,30 +185,49 @@ start f = min (suc (f .n1)) (min (getD (f .entry) (f .source) 0) (getD (f .entry
 
 -- the labels after a failures, at rest
 pub record Still (f : Graph) (a : ℕ) (d wait : List ℕ) : Type 0 where
+  -- what the search is given
   pub laid : Laid f
+  -- every node has a label
   pub long : length (f .entry) ≤ length d
+  -- no more labels than nodes can be
   pub short : length d ≤ 160
+  -- every level has a mark
   pub long-wait : 66 ≤ length wait
+  -- each label has a walk to the target
   pub held : Held (net f) a (λ v. getD d v 0)
+  -- once both ends are in, the target has its capacity
   pub at-t : a < start f → getD (f .cap) (f .target) 0 ≤ getD d (f .target) 0
+  -- before that there is no label
   pub clear : start f ≤ a → (v : ℕ) → getD d v 0 ≡ 0
+  -- what waits is named
   pub marked : Marked f d wait
+  -- no arc into a node that is in raises a label above that of the source
   pub calm : (j : ℕ) → j < length (f .arcs) / 2 → a < getD (f .entry) (to (f .arcs) j) 0 → Quiet f d j
 
 -- a spread keeps the lengths, and each push lowers the count of low labels
 pub record Kept (l : ℕ) (d₀ stack₀ wait₀ : List ℕ) (top₀ : ℕ) (d stack wait : List ℕ) (top : ℕ) : Type 0 where
+  -- as many labels
   pub long : length d ≡ length d₀
+  -- the stack as long
   pub long-stack : length stack ≡ length stack₀
+  -- as many marks
   pub long-wait : length wait ≡ length wait₀
+  -- what a level has left to do has not grown
   pub less : top + 2 * low l d ≤ top₀ + 2 * low l d₀
 
 -- the chains and the stack have room
 pub record Room (arcs entry first more d stack : List ℕ) : Type 0 where
+  -- a head for every node
   pub nodes : length entry ≤ length first
+  -- a link for every arc
   pub places : length arcs / 2 ≤ length more
+  -- the stack holds every node
   pub labels : length d ≤ length stack
 
 pub record Lengths (d₀ stack₀ wait₀ d stack wait : List ℕ) : Type 0 where
+  -- as many labels
   pub labels : length d ≡ length d₀
+  -- the stack as long
   pub pile : length stack ≡ length stack₀
+  -- as many marks
   pub levels : length wait ≡ length wait₀

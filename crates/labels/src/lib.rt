@@ -140,12 +140,13 @@ fn drain(
 }
 
 // The largest level that waits between floor and level, or 0.
-fn next_level(wait: &[u8], level: u8, floor: u8) -> u8
-    requires { ⌜ (0 < level) × (level ≤ 65) × (66 ≤ length (now wait)) ⌝ }
-    ensures { λ r. ⌜ Next (now (wait .entry)) level floor r ⌝ }
+fn next_level(wait: &[u8], level: Pos2, floor: Pos2) -> u8
+    requires { ⌜ (0 < level .0) × (level .0 ≤ 65) × (66 ≤ length (now wait)) ⌝ }
+    ensures { λ r. ⌜ Next (now (wait .entry)) (level .0) (floor .0) r ⌝ }
 {
-    let mut m = level - 1;
-    while floor < m {
+    let done = level.0;
+    let mut m = done - 1;
+    while !floor.at_least(Pos2(m)) {
         if wait[wide(m)] != 0 {
             return m;
         }
@@ -180,7 +181,7 @@ pub fn flood(
         let at = step_to(begin, begin.x, level, node, 0);
         drain(arcs, entry, cap, first, more, at, label, stack, wait);
         let s = begin.source;
-        let m = next_level(wait, level.0, label[s]);
+        let m = next_level(wait, level, Pos2(label[s]));
         if m == 0 {
             return;
         }

@@ -1,24 +1,23 @@
 -- The sweep collects the front: what is collected and what lies below x hold where the network does.
-use mathlib.Core.Path.{_≡_, refl, sym, ap, _∙_, subst}
+use mathlib.Core.Path.{_≡_, refl, sym, subst}
 use mathlib.Core.Logic.{_↔_, _⊎_, inl, inr, ⊎-elim}
-use mathlib.Core.Bool.{Bool, true, false, _&&_, _||_}
+use mathlib.Core.Bool.{false, _||_}
 use mathlib.Core.List.{List, [], _∷_, _++_}
-use Prim.Native.Nat.{ℕ, zero, suc, _+_, _-_, _≤_, _<_}
+use Prim.Native.Nat.{ℕ, suc, _≤_, _<_}
 use native.Mathlib.Omega.{arith}
 use lib.Dec.{T, ltb, ltb→lt, lt→ltb}
-use lib.ListN.{length, getD}
+use lib.ListN.{length}
 use Rattle.laws.specs.Tests.{T-ext, T-and, T-or, order}
-use Rattle.laws.specs.Members.{_∈_, any-out, any-in}
+use Rattle.laws.specs.Members.{any-out, any-in}
 use Rattle.front.specs.declared.Pair.{Pair}
 use Rattle.front.specs.Pair.{pairOf, holdsAt}
 use Rattle.front.specs.Front.{holds, Within, AllWithin}
 use Rattle.front.proofs.Pairs.{holds-is}
 use Rattle.record.specs.Record.{size1, size2, listed, frontBytes}
 use Rattle.buffer.specs.Buffer.{longest, recordIn, Puttable}
-use Rattle.buffer.proofs.Collects.{Where, Collects, collects-puttable, collects-more, collects-all}
+use Rattle.buffer.proofs.Collects.{Collects, collects-puttable, collects-more, collects-all}
 use Rattle.network.specs.Walk.{pathPairs}
-use Rattle.labels.specs.State.{Graph, net, Still, start}
-use Rattle.labels.proofs.Rests.{at-rest}
+use Rattle.labels.specs.State.{Graph, net}
 use Rattle.sweep.specs.Sweep.{whole, below}
 
 -- what holds after more failures holds after fewer
@@ -37,11 +36,6 @@ module _ (f : Graph) where
   -- y is how many failures of class 2 the network stands after a of class 1
   abbrev pub Height : ℕ → ℕ → Type 0
   Height a y = (b : ℕ) → T (whole f a b) ↔ (b < y)
-
-  -- fewer failures of class 1: no lower height
-  pub height-order : (a c y z : ℕ) → a ≤ c → Height a y → Height c z → z ≤ y
-  height-order a c y z h hy hz =
-      ⊎-elim (λ le. le) (λ lt. absurd (omega (arith, hy y .0 (holds-fewer (pathPairs (net f)) a c y h (hz y .1 lt))))) (order z y)
 
   -- at and above x all is collected
   module _ {x : ℕ} {buf : List ℕ} (c : Collects (f .n1) (f .n2) (whole f) (below f x) x buf) where

@@ -1,18 +1,16 @@
 -- The turns of the sweep: from one x to the next that matters.
-use mathlib.Core.Path.{_≡_, refl, sym, ap, _∙_, subst}
-use mathlib.Core.Logic.{_↔_, ⊎-elim}
-use mathlib.Core.Bool.{Bool, true, false, _||_}
+use mathlib.Core.Path.{_≡_, refl, sym, _∙_, subst}
+use mathlib.Core.Logic.{⊎-elim}
 use mathlib.Core.List.{List, [], _∷_, _++_}
-use Prim.Native.Nat.{ℕ, zero, suc, _+_, _-_, _/_, _≤_, _<_}
+use Prim.Native.Nat.{ℕ, zero, suc, _-_, _/_, _≤_, _<_}
 use native.Mathlib.Omega.{arith}
-use lib.Dec.{T}
 use lib.ListN.{length, getD, set, replicate, length-set, length-replicate}
 use lib.Seq.{getD-set-same}
-use Rattle.laws.specs.Tests.{T-ext, T-or, order as sides}
+use Rattle.laws.specs.Tests.{T-ext, order as sides}
 use Rattle.laws.specs.Members.{any-out}
-use Rattle.front.specs.declared.Pair.{Pair}
+use Rattle.laws.specs.Parts.{getD-same}
 use Rattle.front.specs.Pair.{pairOf, holdsAt}
-use Rattle.front.specs.Front.{holds, Within, AllWithin}
+use Rattle.front.specs.Front.{Within, AllWithin}
 use Rattle.front.proofs.Pairs.{holds-is}
 use Rattle.record.specs.Record.{size1, size2, listed, frontBytes}
 use Rattle.buffer.specs.Buffer.{longest, recordIn, Puttable}
@@ -22,18 +20,27 @@ use Rattle.labels.specs.State.{Graph, Laid, Chains, Work, Still, Room, Lengths,
 use Rattle.labels.proofs.Drains.{skipped, entered, first-in}
 use Rattle.labels.proofs.Rests.{at-rest, at-first}
 use Rattle.sweep.specs.Sweep.{whole, below, ByOrder, NextIn}
-use Rattle.sweep.proofs.Sweeps.{Height, height-order, holds-fewer, below-is, same-height, rise-puttable, rise-height, all-collected}
+use Rattle.sweep.proofs.Sweeps.{Height, holds-fewer, below-is, same-height, rise-puttable, rise-height, all-collected}
 
 -- the sweep at x, where `node` enters; `last` is the height after x failures
 pub record Sweeping (f : Graph) (first more order label stack wait found : List ℕ) (x node last : ℕ) : Type 0 where
+  -- the labels, with `node` about to spread its own
   pub work : Work f (x - 1) (getD label node 0) label (node ∷ []) wait 1 0 0
+  -- x is a position
   pub some : 0 < x
+  -- both ends are in
   pub begun : x ≤ start f
+  -- the chains
   pub chains : Chains (f .arcs) first more (length (f .arcs) / 2)
+  -- room for them and on the stack
   pub room : Room (f .arcs) (f .entry) first more label stack
+  -- the class 1 order
   pub by-order : ByOrder f order
+  -- the height that was collected last
   pub height : Height f x last
+  -- what is collected, and that the rest lies below x
   pub done : Collects (f .n1) (f .n2) (whole f) (below f x) x found
+  -- no path's pair is out of range
   pub within : AllWithin (f .n1) (f .n2) (pathPairs (net f))
 
 -- past nodes whose label is not above that of the source nothing changes
@@ -115,16 +122,11 @@ module _ {f : Graph} {first more order label stack wait found : List ℕ} {x nod
         }
 
 -- ---- the first turn: only the target has a label
-pub zeros : (n v : ℕ) → getD {A = ℕ} (replicate n 0) v 0 ≡ 0
-zeros zero v = refl
-zeros (suc n) zero = refl
-zeros (suc n) (suc v) = zeros n v
-
 module _ {f : Graph} {first more order found : List ℕ} (l : Laid f) (o : ByOrder f order) (ch : Chains (f .arcs) first more (length (f .arcs) / 2))
     (entry-first : length (f .entry) ≤ length first) (places : length (f .arcs) / 2 ≤ length more) (within : AllWithin (f .n1) (f .n2) (pathPairs (net f)))
     (empty : found ≡ f .n1 ∷ f .n2 ∷ replicate 131 0) (x : ℕ) (is-x : x ≡ start f) (some : 0 < x) where
   still : Still f (start f) (replicate 160 0) (replicate 66 0)
-  still = at-first l (omega arith) refl (omega arith) (zeros 160) (zeros 66)
+  still = at-first l (omega arith) refl (omega arith) (λ v. getD-same 160 v 0) (λ c. getD-same 66 c 0)
 
   -- an end is shut
   shut : Height f x 0
@@ -133,7 +135,7 @@ module _ {f : Graph} {first more order found : List ℕ} (l : Laid f) (o : ByOrd
         let r = any-out (λ p. holdsAt p x b) (pathPairs (net f)) t in
         let h = holds-is (r .0) x b .0 (r .2) in
         let k : x ≤ f .n1 = omega (arith, within (r .0) (r .1)) in
-        omega (arith, at-rest (subst (λ i. Still f i (replicate 160 0) (replicate 66 0)) (sym is-x) still) k b .0 t, zeros 160 (f .source)),
+        omega (arith, at-rest (subst (λ i. Still f i (replicate 160 0) (replicate 66 0)) (sym is-x) still) k b .0 t, getD-same {A = ℕ} 160 (f .source) 0),
     λ h. absurd (omega arith),
   )
 

@@ -1,13 +1,14 @@
 -- The sweep: class 1 positions from the largest down, and what is collected on the way.
 use mathlib.Core.Path.{_≡_}
 use mathlib.Core.Bool.{Bool, _&&_}
-use mathlib.Core.List.{List, [], _∷_}
-use Prim.Native.Nat.{ℕ, suc, _-_, _≤_, _<_}
+use mathlib.Core.List.{List}
+use Prim.Native.Nat.{ℕ, suc, _-_, _/_, _≤_, _<_}
 use lib.Dec.{ltb}
 use lib.ListN.{length, getD}
-use Rattle.front.specs.Front.{holds}
+use Rattle.front.specs.Front.{holds, AllWithin}
 use Rattle.network.specs.Walk.{pathPairs}
-use Rattle.labels.specs.State.{Graph, net}
+use Rattle.labels.specs.declared.Step.{Step}
+use Rattle.labels.specs.State.{Graph, graphOf, net, Laid, Chains, start}
 
 -- where the network holds, and what of it lies below x failures of class 1
 abbrev pub whole : Graph → ℕ → ℕ → Bool
@@ -18,13 +19,41 @@ below f x a b = ltb a x && whole f a b
 
 -- the class 1 order: at each place the one node of that position
 pub record ByOrder (f : Graph) (order : List ℕ) : Type 0 where
+  -- a place for every position
   pub long : f .n1 ≤ length order
+  -- a node at each
   pub node : (k : ℕ) → k < f .n1 → getD order k 0 < length (f .entry)
+  -- whose position it is
   pub place : (k : ℕ) → k < f .n1 → getD (f .entry) (getD order k 0) 0 ≡ suc k
+  -- and no other node's
   pub alone : (k v : ℕ) → k < f .n1 → v < length (f .entry) → getD (f .entry) v 0 ≡ suc k → getD order k 0 ≡ v
+
+-- what the sweep is given: a network as it is laid out, its chains, the class 1 order, and the first step
+pub record Sweepable (arcs entry cap first more order : List ℕ) (begin : Step) : Type 0 where
+  -- nodes, arcs and capacities
+  pub laid : Laid (graphOf arcs entry cap begin)
+  -- the class 1 order
+  pub by-order : ByOrder (graphOf arcs entry cap begin) order
+  -- the arcs into each node
+  pub chains : Chains arcs first more (length arcs / 2)
+  -- a head for every node
+  pub heads : length entry ≤ length first
+  -- a link for every arc
+  pub links : length arcs / 2 ≤ length more
+  -- no path's pair is out of range
+  pub within : AllWithin (begin .n1) (begin .n2) (pathPairs (net (graphOf arcs entry cap begin)))
+  -- both ends are in at x, and at no larger one
+  pub begins : begin .x .0 ≡ start (graphOf arcs entry cap begin)
+  -- which is a position
+  pub some : 0 < begin .x .0
+  -- the target enters first
+  pub enters : begin .target ≡ begin .node
 
 -- the next node to enter: the largest place up to z whose node has a label above `last`; 0 where there is none
 pub record NextIn (order label : List ℕ) (z last r : ℕ) : Type 0 where
+  -- at most z
   pub most : r ≤ z
+  -- no node of a later place has such a label
   pub none : (k : ℕ) → r ≤ k → k < z → getD label (getD order k 0) 0 ≤ last
+  -- its own node has
   pub found : 0 < r → last < getD label (getD order (r - 1) 0) 0

@@ -7,38 +7,36 @@ use labels::Step;
 use slices::wide;
 ghost use mathlib.Core.Path.{_≡_};
 ghost use mathlib.Core.List.{[], _∷_, _++_};
-ghost use Prim.Native.Nat.{ℕ, _+_, _*_, _/_, _≤_, _<_};
+ghost use Prim.Native.Nat.{ℕ, _≤_, _<_};
 ghost use lib.ListN.{length, getD};
-ghost use Rattle.front.specs.Pair.{pairOf};
-ghost use Rattle.front.specs.Front.{AllWithin};
 ghost use Rattle.record.specs.Record.{size1, size2, listed, frontBytes};
 ghost use Rattle.buffer.specs.Buffer.{longest, recordIn, Puttable};
 ghost use Rattle.network.specs.Walk.{pathPairs};
-ghost use Rattle.labels.specs.State.{graphOf, net, Laid, Chains, start};
-ghost use Rattle.sweep.specs.Sweep.{ByOrder, NextIn};
+ghost use Rattle.labels.specs.State.{graphOf, net};
+ghost use Rattle.sweep.specs.Sweep.{Sweepable, NextIn};
 
-// Puts the pair (x, y), where y is above the last height.
-fn collect(found: &mut [u8; LONGEST], x: u8, y: u8, last: u8)
-    requires { ⌜ (length (now found) ≡ longest) × (last < y → Puttable (now found) (pairOf x y)) ⌝ }
+// Puts the pair, where its p2 is above the last.
+fn collect(found: &mut [u8; LONGEST], p: Pair, last: Pos2)
+    requires { ⌜ (length (now found) ≡ longest) × (last .0 < p .p2 .0 → Puttable (now found) p) ⌝ }
     ensures long { λ _. ⌜ length (now (found .exit)) ≡ longest ⌝ }
-    ensures same { λ _. ⌜ (y ≤ last → now (found .exit) ≡ now (found .entry)) ⌝ }
-    ensures more { λ _. ⌜ (last < y → recordIn (now (found .exit)) ≡ frontBytes (size1 (now (found .entry))) (size2 (now (found .entry))) (listed (recordIn (now (found .entry))) ++ pairOf x y ∷ [])) ⌝ }
+    ensures same { λ _. ⌜ (p .p2 .0 ≤ last .0 → now (found .exit) ≡ now (found .entry)) ⌝ }
+    ensures more { λ _. ⌜ (last .0 < p .p2 .0 → recordIn (now (found .exit)) ≡ frontBytes (size1 (now (found .entry))) (size2 (now (found .entry))) (listed (recordIn (now (found .entry))) ++ p ∷ [])) ⌝ }
 {
-    if y <= last {
+    if last.at_least(p.p2) {
         return;
     }
-    buffer::put(found, Pair::new(x, y))
+    buffer::put(found, p)
 }
 
 // The next node to enter: the largest place up to z whose node has a label above `last`, or 0.
-fn next_in(order: &[u8], label: &[u8], z: u8, last: u8) -> u8
+fn next_in(order: &[u8], label: &[u8], z: u8, last: Pos2) -> u8
     requires { ⌜ (z ≤ length (now order)) × ((k : ℕ) → k < z → getD (now order) k 0 < length (now label)) ⌝ }
-    ensures { λ r. ⌜ NextIn (now (order .entry)) (now (label .entry)) z last r ⌝ }
+    ensures { λ r. ⌜ NextIn (now (order .entry)) (now (label .entry)) z (last .0) r ⌝ }
 {
     let mut r = z;
     while 0 < r {
         let v = wide(order[wide(r) - 1]);
-        if last < label[v] {
+        if !last.at_least(Pos2(label[v])) {
             return r;
         }
         r -= 1;
@@ -57,12 +55,7 @@ pub fn sweep(
     order: &[u8],
     begin: Step,
 ) -> [u8; LONGEST]
-    requires laid { ⌜ Laid (graphOf (now arcs) (now entry) (now cap) begin) ⌝ }
-    requires order { ⌜ ByOrder (graphOf (now arcs) (now entry) (now cap) begin) (now order) ⌝ }
-    requires chains { ⌜ Chains (now arcs) (now first) (now more) (length (now arcs) / 2) ⌝ }
-    requires room { ⌜ (length (now entry) ≤ length (now first)) × (length (now arcs) / 2 ≤ length (now more)) ⌝ }
-    requires within { ⌜ AllWithin (begin .n1) (begin .n2) (pathPairs (net (graphOf (now arcs) (now entry) (now cap) begin))) ⌝ }
-    requires begins { ⌜ (begin .x .0 ≡ start (graphOf (now arcs) (now entry) (now cap) begin)) × (0 < begin .x .0) × (begin .target ≡ begin .node) ⌝ }
+    requires { ⌜ Sweepable (now arcs) (now entry) (now cap) (now first) (now more) (now order) begin ⌝ }
     ensures { λ r. ⌜ recordIn r ≡ frontBytes (begin .n1) (begin .n2) (pathPairs (net (graphOf (now (arcs .entry)) (now (entry .entry)) (now (cap .entry)) begin))) ⌝ }
 {
     let mut label = [0u8; 160];
@@ -73,7 +66,7 @@ pub fn sweep(
     label[t] = cap[t];
     let mut x = begin.x.0;
     let mut node = begin.node;
-    let mut last: u8 = 0;
+    let mut last = Pos2(0);
     loop {
         let at = labels::step_to(begin, Pos1(x), Pos2(label[wide(node)]), node, 0);
         labels::flood(
@@ -88,8 +81,8 @@ pub fn sweep(
             &mut wait,
         );
         let s = begin.source;
-        let y = label[s];
-        collect(&mut found, x, y, last);
+        let y = Pos2(label[s]);
+        collect(&mut found, Pair { p1: Pos1(x), p2: y }, last);
         last = y;
         x = next_in(order, &label, x - 1, y);
         if x == 0 {

@@ -1,18 +1,14 @@
+-- `labels::drain` empties the stack, or stops when the source has the level; every push lowers the count of nodes below the level.
+use mathlib.Core.Path.{refl, sym, _∙_}
+use Prim.Native.Nat.{_+_, _-_, _*_}
+use native.Mathlib.Omega.{arith}
+use lib.ListN.{getD, length-set}
+use borrow.Author.Tests.{leb-true}
+use borrow.Author.Needs.{needs}
 use Rattle.labels.specs.State.{graphOf, low}
 use Rattle.labels.proofs.Drains.{Draining, begin, pop, rest, drained, unset}
-use borrow.Author.Tests.{leb-true, leb-false}
-use mathlib.Core.Path.{_≡_, refl, sym, ap, _∙_}
-use Prim.Native.Nat.{ℕ, suc, _+_, _-_, _*_, _/_, _≤_, _<_}
-use native.Mathlib.Omega.{arith}
-use borrow.Author.Needs.{needs}
-use lib.ListN.{length, getD, set, length-set}
 use Rattle.labels.proofs.drain.Statement.{statement}
 use Rattle.labels.proofs.drain.Tie as tie
-use Rattle.labels.proofs.drain.Reads as reads
-use Rattle.labels.proofs.drain.Lts as lts
-use Rattle.front.proofs.class2.Pos2.at_least.Reads as at-least-reads
-use Rattle.labels.proofs.spread.Reads as spread-reads
-use Rattle.labels.proofs.step_to.Reads as step-to-reads
 
 abbrev Inv-loop : tie.InvT-loop
 Inv-loop arcs entry cap first more at label₀ stack₀ wait₀ top₀ label stack wait top = Draining (graphOf arcs entry cap at) first more (at .x .0 - 1) (at .level .0) label₀ stack₀ wait₀ label stack wait top

@@ -1,19 +1,14 @@
-use Rattle.labels.proofs.Drains.{pos-of}
-use Rattle.labels.specs.State.{graphOf, moved}
-use Rattle.labels.proofs.Drains.{Flooding, flooded, settle, joined, in-wait}
-use mathlib.Core.Path.{_≡_, refl, sym, ap, _∙_}
-use Prim.Native.Nat.{ℕ, suc, _+_, _-_, _*_, _/_, _≤_, _<_}
+-- `labels::flood` goes from level to level until none waits above the source's label.
+use mathlib.Core.Path.{_≡_, refl, ap}
+use Prim.Native.Nat.{suc, _-_, _≤_}
+use native.Mathlib.Nat.{pos-of-ne-zero}
 use native.Mathlib.Omega.{arith}
+use lib.ListN.{getD}
 use borrow.Author.Needs.{needs}
-use lib.ListN.{length, getD, set, length-set}
+use Rattle.labels.specs.State.{graphOf}
+use Rattle.labels.proofs.Drains.{Flooding, flooded, settle, joined}
 use Rattle.labels.proofs.flood.Statement.{statement}
 use Rattle.labels.proofs.flood.Tie as tie
-use Rattle.labels.proofs.flood.Reads as reads
-use Rattle.labels.proofs.flood.Lts as lts
-use Rattle.labels.proofs.drain.Reads as drain-reads
-use Rattle.labels.proofs.next_level.Reads as next-level-reads
-use Rattle.labels.proofs.step_to.Reads as step-to-reads
-use Rattle.slices.proofs.wide.Reads as wide-reads
 
 abbrev Inv-loop : tie.InvT-loop
 Inv-loop arcs entry cap first more begin label₀ stack₀ wait₀ level₀ node₀ label stack wait level node = Flooding (graphOf arcs entry cap begin) first more (begin .x .0 - 1) label₀ stack₀ wait₀ label stack wait (level .0) node
@@ -23,7 +18,7 @@ abbrev μ-loop : tie.MeasureT-loop
 
 -- the node that a level names
 named : (c : tie.After-wide Inv-loop μ-loop) → 1 ≤ getD (c .before .before .before .before .before .before .before .before .before .before .before .drain .last .1 .1 .1 .1 .1 .1 .1 .1 .0) (c .before .before .next-level .result) 0
-named c = pos-of _ (c .before .before .next-level .ensures .found (omega arith) .2)
+named c = pos-of-ne-zero (c .before .before .next-level .ensures .found (omega arith) .2)
 
 loop-holds : tie.Need-loop-holds Inv-loop μ-loop
 loop-holds c =
@@ -44,8 +39,8 @@ drain-requires c κs =
     let l = c .before .before .before .before .before .before .loop .inv in
     rw (c .before .before .before .step-to .ensures) (l .work, (l .chains, (c .before .before .before .before .before .before .before .before .before .before .before .before .before .before .before .before .pre .1 .0 .0, l .room)))
 
-slice-read-next-level : tie.Need-slice-read-next-level Inv-loop μ-loop
-slice-read-next-level c = search needs
+slice-read-node : tie.Need-slice-read-node Inv-loop μ-loop
+slice-read-node c = search needs
 
 next-level-requires : tie.Need-next-level-requires Inv-loop μ-loop
 next-level-requires c κs = search needs
@@ -69,8 +64,8 @@ returns c =
 wide-requires : tie.Need-wide-requires Inv-loop μ-loop
 wide-requires c κs = search needs
 
-slice-read-node : tie.Need-slice-read-node Inv-loop μ-loop
-slice-read-node c =
+slice-read-node-2 : tie.Need-slice-read-node-2 Inv-loop μ-loop
+slice-read-node-2 c =
     let w = rw (c .before .before .before .before .before .before .before .before .before .before .before .before .before .before .before .before .step-to .ensures) at (c .before .before .before .before .before .before .before .before .before .before .before .before .drain .ensures .0) in
     omega (arith, w .long-wait, w .high, w .laid .small2, c .before .before .before .next-level .ensures .found (omega arith), c .before .wide .ensures)
 
@@ -117,14 +112,14 @@ flood-spec =
     loop-holds
     step-to-requires
     drain-requires
-    slice-read-next-level
+    slice-read-node
     next-level-requires
     same-length
     same-length-2
     same-length-3
     returns
     wide-requires
-    slice-read-node
+    slice-read-node-2
     sub-node
     slice-write-wait
     loop-less

@@ -1,14 +1,11 @@
-use Rattle.labels.proofs.Links.{Linking, unlinked, node, link-again, done}
-use mathlib.Core.Path.{_≡_, refl, sym, ap, _∙_}
-use Prim.Native.Nat.{ℕ, suc, _+_, _-_, _*_, _/_, _≤_, _<_}
+-- `labels::link` puts one place after another at the head of its chain.
+use mathlib.Core.Path.{refl}
+use Prim.Native.Nat.{_-_}
 use native.Mathlib.Omega.{arith}
 use borrow.Author.Needs.{needs}
-use lib.ListN.{length, getD, set, length-set}
+use Rattle.labels.proofs.Links.{Linking, unlinked, node, link-again, done}
 use Rattle.labels.proofs.link.Statement.{statement}
 use Rattle.labels.proofs.link.Tie as tie
-use Rattle.labels.proofs.link.Reads as reads
-use Rattle.labels.proofs.link.Lts as lts
-use Rattle.slices.proofs.wide.Reads as wide-reads
 
 abbrev Inv-loop : tie.InvT-loop
 Inv-loop arcs first₀ more₀ n i₀ first more i = Linking arcs first₀ more₀ first more n i

@@ -1,48 +1,58 @@
+-- `labels::next_level` goes down from the level: no level above m waits.
 use mathlib.Core.Path.{sym, ap, _∙_}
-use Prim.Native.Nat.{_≤_}
-use Prim.Native.Nat.{_-_}
+use Prim.Native.Nat.{_≤_, _<_}
 use native.Mathlib.Omega.{arith}
+use lib.ListN.{getD}
 use borrow.Author.Needs.{needs}
-use lib.ListN.{length, getD}
+use borrow.Author.Tests.{leb-true, leb-false, not-true, not-false}
 use Rattle.labels.proofs.Drains.{Seeking, sought, sought-none, seek-on}
 use Rattle.labels.proofs.next_level.Statement.{statement}
 use Rattle.labels.proofs.next_level.Tie as tie
-use Rattle.labels.proofs.next_level.Reads as reads
-use Rattle.labels.proofs.next_level.Lts as lts
-use Rattle.slices.proofs.wide.Reads as wide-reads
 
 abbrev Inv-loop : tie.InvT-loop
-Inv-loop wait level floor m₀ m = Seeking wait level m × (level ≤ 65)
+Inv-loop wait floor done m₀ m = Seeking wait done m × (done ≤ 65)
 
 abbrev μ-loop : tie.MeasureT-loop
-μ-loop wait level floor m₀ m = m
+μ-loop wait floor done m₀ m = m
+
+-- m is above the floor
+above : (c : tie.Then1 Inv-loop μ-loop) → c .before .before .before .before .args .floor .0 < c .before .before .loop .m
+above c = leb-false _ _ (sym (c .before .at-least .ensures) ∙ not-true _ (c .if1 .taken))
 
 sub-m : tie.Need-sub-m Inv-loop μ-loop
 sub-m c = search needs
 
 loop-holds : tie.Need-loop-holds Inv-loop μ-loop
-loop-holds c = (record { low = omega arith; none = λ c b k. absurd (omega arith); long = c .before .pre .2 }, c .before .pre .1)
+loop-holds c = let p = c .before .pre in (record { low = omega (arith, p); none = λ c b k. absurd (omega (arith, p)); long = p .2 }, p .1)
+
+at-least-requires : tie.Need-at-least-requires Inv-loop μ-loop
+at-least-requires c κs = search needs
 
 wide-requires : tie.Need-wide-requires Inv-loop μ-loop
 wide-requires c κs = search needs
 
-shared-slice-read-if1 : tie.Need-shared-slice-read-if1 Inv-loop μ-loop
-shared-slice-read-if1 c = omega (arith, c .before .before .before .loop .inv .0 .low, c .before .before .before .loop .inv .0 .long, c .before .wide .ensures)
+shared-slice-read-if2 : tie.Need-shared-slice-read-if2 Inv-loop μ-loop
+shared-slice-read-if2 c = let l = c .before .before .before .before .loop .inv in omega (arith, l .0 .low, l .0 .long, l .1, c .before .wide .ensures)
 
 returns : tie.Need-returns Inv-loop μ-loop
-returns c = sought (c .before .before .before .before .loop .inv .0) (c .before .before .before .before .before .before .args .floor) (omega arith) (λ e. c .if1 .taken (ap (λ n. getD (c .before .before .before .before .before .before .args .wait .now) n 0) (c .before .before .wide .ensures .0) ∙ e))
+returns c =
+    let a = c .before .before .before .before .before .before .before .args in
+    sought (c .before .before .before .before .before .loop .inv .0) (a .floor .0) (above (c .before .before .before)) (λ e. c .if2 .taken (ap (λ n. getD (a .wait .now) n 0) (c .before .before .wide .ensures .0) ∙ e))
 
 sub-m-2 : tie.Need-sub-m-2 Inv-loop μ-loop
-sub-m-2 c = search needs
+sub-m-2 c = omega (arith, above (c .before .before .before))
 
 loop-less : tie.Need-loop-less Inv-loop μ-loop
-loop-less c = search needs
+loop-less c = omega (arith, above (c .before .before .before))
 
 loop-again : tie.Need-loop-again Inv-loop μ-loop
-loop-again c = (seek-on (c .before .before .before .before .loop .inv .0) (omega arith) (ap (λ n. getD (c .before .before .before .before .before .before .args .wait .now) n 0) (sym (c .before .before .wide .ensures .0)) ∙ c .if1 .left), c .before .before .before .before .loop .inv .1)
+loop-again c =
+    let a = c .before .before .before .before .before .before .before .args in
+    let l = c .before .before .before .before .before .loop .inv in
+    (seek-on (l .0) (omega (arith, above (c .before .before .before))) (ap (λ n. getD (a .wait .now) n 0) (sym (c .before .before .wide .ensures .0)) ∙ c .if2 .left), l .1)
 
 returns-2 : tie.Need-returns-2 Inv-loop μ-loop
-returns-2 c = sought-none (c .before .loop .inv .0) (c .before .before .before .args .floor) (omega arith)
+returns-2 c = sought-none (c .before .before .loop .inv .0) (c .before .before .before .before .args .floor .0) (leb-true _ _ (sym (c .before .at-least .ensures) ∙ not-false _ (c .if1 .left)))
 
 pub next-level-spec : {M : Type 1} → statement M
 next-level-spec =
@@ -52,8 +62,9 @@ next-level-spec =
     μ-loop
     sub-m
     loop-holds
+    at-least-requires
     wide-requires
-    shared-slice-read-if1
+    shared-slice-read-if2
     returns
     sub-m-2
     loop-less

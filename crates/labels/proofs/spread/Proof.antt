@@ -1,20 +1,14 @@
-use Rattle.labels.specs.State.{graphOf, Work, Kept}
-use Rattle.labels.proofs.Spreads.{Spreading, Turn, place, at-node, falls, node-in, level-in, passed, again-waits, again-shut, space, again-pushed, idle}
-use borrow.Author.Tests.{leb-true, leb-false, not-true, not-false}
-use mathlib.Core.Path.{_≡_, refl, sym, ap, _∙_}
-use Prim.Native.Nat.{ℕ, suc, _+_, _-_, _*_, _/_, _≤_, _<_}
+-- `labels::spread` follows the chain of the node at work, each arc a turn of one of four kinds.
+use mathlib.Core.Path.{refl, sym, _∙_}
+use Prim.Native.Nat.{_-_, _≤_, _<_}
 use native.Mathlib.Omega.{arith}
+use lib.ListN.{getD}
+use borrow.Author.Tests.{leb-true, leb-false, not-true, not-false}
 use borrow.Author.Needs.{needs}
-use lib.ListN.{length, getD, set, length-set}
+use Rattle.labels.specs.State.{graphOf}
+use Rattle.labels.proofs.Spreads.{Spreading, Turn, place, at-node, falls, node-in, level-in, passed, again-waits, again-shut, space, again-pushed, idle}
 use Rattle.labels.proofs.spread.Statement.{statement}
 use Rattle.labels.proofs.spread.Tie as tie
-use Rattle.labels.proofs.spread.Reads as reads
-use Rattle.labels.proofs.spread.Lts as lts
-use Rattle.front.proofs.class1.Pos1.at_least.Reads as class1-Pos1-at-least-reads
-use Rattle.front.proofs.class2.Pos2.at_least.Reads as class2-Pos2-at-least-reads
-use Rattle.front.proofs.class2.Pos2.min.Reads as min-reads
-use Rattle.labels.proofs.wide2.Reads as wide2-reads
-use Rattle.slices.proofs.wide.Reads as wide-reads
 
 abbrev Inv-loop : tie.InvT-loop
 Inv-loop arcs entry cap first more at label₀ stack₀ wait₀ top₀ i₀ label stack wait top i = Spreading (graphOf arcs entry cap at) first more (at .x .0 - 1) (at .level .0) label₀ stack₀ wait₀ top₀ label stack wait top (at .node) i

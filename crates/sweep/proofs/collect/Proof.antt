@@ -1,26 +1,29 @@
-use mathlib.Core.Path.{_≡_, refl, sym, ap, _∙_}
-use Prim.Native.Nat.{ℕ, suc, _+_, _-_, _*_, _/_, _≤_, _<_}
+-- `sweep::collect` leaves the buffer, or puts the pair.
+use mathlib.Core.Path.{refl, sym, _∙_}
+use Prim.Native.Nat.{_≤_, _<_}
 use native.Mathlib.Omega.{arith}
-use lib.ListN.{length, getD, set, length-set}
 use borrow.Author.Needs.{needs}
+use borrow.Author.Tests.{leb-true, leb-false}
 use Rattle.sweep.proofs.collect.Statement.{statement}
 use Rattle.sweep.proofs.collect.Tie as tie
-use Rattle.sweep.proofs.collect.Reads as reads
-use Rattle.sweep.proofs.collect.Lts as lts
-use Rattle.buffer.proofs.put.Reads as put-reads
-use Rattle.front.proofs.Pair.new.Reads as new-reads
+
+stays : (c : tie.Then1) → let a = c .before .before .args in a .p .p2 .0 ≤ a .last .0
+stays c = leb-true _ _ (sym (c .before .at-least .ensures) ∙ c .if1 .taken)
+
+rises : (c : tie.Else1) → let a = c .before .before .args in a .last .0 < a .p .p2 .0
+rises c = leb-false _ _ (sym (c .before .at-least .ensures) ∙ c .if1 .left)
+
+at-least-requires : tie.Need-at-least-requires
+at-least-requires c κs = search needs
 
 returns : tie.Need-returns
-returns c = (c .before .pre .0, (λ h. refl, λ h. absurd (omega arith)))
-
-new-requires : tie.Need-new-requires
-new-requires c κs = search needs
+returns c = (c .before .before .pre .0, (λ h. refl, λ h. absurd (omega (arith, stays c))))
 
 put-requires : tie.Need-put-requires
-put-requires c κs = rw (c .new .ensures) (c .before .before .before .pre .1 (omega arith))
+put-requires c κs = c .before .before .before .pre .1 (rises (c .before))
 
 returns-2 : tie.Need-returns-2
-returns-2 c = (c .put .ensures .0, (λ h. absurd (omega arith), λ h. rw (c .before .new .ensures) at (c .put .ensures .1)))
+returns-2 c = (c .put .ensures .0, (λ h. absurd (omega (arith, rises (c .before .before))), λ h. c .put .ensures .1))
 
 pub collect-spec : {M : Type 1} → statement M
-collect-spec = tie.close (tie.spec returns new-requires put-requires returns-2)
+collect-spec = tie.close (tie.spec at-least-requires returns put-requires returns-2)

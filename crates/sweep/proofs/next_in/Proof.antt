@@ -1,20 +1,17 @@
-use Rattle.sweep.specs.Sweep.{NextIn}
-use Rattle.laws.specs.Tests.{order as sides}
+-- `sweep::next_in` goes down from z: no node of a later place has a label above `last`.
 use mathlib.Core.Logic.{⊎-elim}
-use mathlib.Core.Path.{subst}
-use mathlib.Core.Path.{_≡_, refl, sym, ap, _∙_}
-use Prim.Native.Nat.{ℕ, suc, _+_, _-_, _*_, _/_, _≤_, _<_}
+use mathlib.Core.Path.{subst, _≡_, sym, ap, _∙_}
+use Prim.Native.Nat.{ℕ, _-_, _≤_, _<_}
 use native.Mathlib.Omega.{arith}
+use lib.ListN.{getD}
 use borrow.Author.Needs.{needs}
-use lib.ListN.{length, getD, set, length-set}
+use borrow.Author.Tests.{leb-true, leb-false, not-true, not-false}
+use Rattle.laws.specs.Tests.{order as sides}
 use Rattle.sweep.proofs.next_in.Statement.{statement}
 use Rattle.sweep.proofs.next_in.Tie as tie
-use Rattle.sweep.proofs.next_in.Reads as reads
-use Rattle.sweep.proofs.next_in.Lts as lts
-use Rattle.slices.proofs.wide.Reads as wide-reads
 
 abbrev Inv-loop : tie.InvT-loop
-Inv-loop order label z last r₀ r = (r ≤ z) × ((k : ℕ) → r ≤ k → k < z → getD label (getD order k 0) 0 ≤ last)
+Inv-loop order label z last r₀ r = (r ≤ z) × ((k : ℕ) → r ≤ k → k < z → getD label (getD order k 0) 0 ≤ last .0)
 
 abbrev μ-loop : tie.MeasureT-loop
 μ-loop order label z last r₀ r = r
@@ -38,14 +35,18 @@ shared-slice-read-wide c = omega (arith, c .before .wide .ensures, c .before .be
 wide-requires-2 : tie.Need-wide-requires-2 Inv-loop μ-loop
 wide-requires-2 c κs = search needs
 
-shared-slice-read-if1 : tie.Need-shared-slice-read-if1 Inv-loop μ-loop
-shared-slice-read-if1 c = omega (arith, here (c .before), c .before .before .before .before .before .before .before .before .pre .1 (c .before .before .before .before .before .loop .r - 1) (omega (arith, c .before .before .before .before .before .loop .inv .0)))
+shared-slice-read-t11 : tie.Need-shared-slice-read-t11 Inv-loop μ-loop
+shared-slice-read-t11 c = omega (arith, here (c .before), c .before .before .before .before .before .before .before .before .pre .1 (c .before .before .before .before .before .loop .r - 1) (omega (arith, c .before .before .before .before .before .loop .inv .0)))
+
+at-least-requires : tie.Need-at-least-requires Inv-loop μ-loop
+at-least-requires c κs = search needs
 
 returns : tie.Need-returns Inv-loop μ-loop
 returns c =
-    let a = c .before .before .before .before .before .before .before .before .before .args in
-    let l = c .before .before .before .before .before .before .loop in
-    record { most = l .inv .0; none = l .inv .1; found = λ h. subst (λ v. a .last < getD (a .label .now) v 0) (here (c .before .before)) (c .if1 .taken) }
+    let a = c .before .before .before .before .before .before .before .before .before .before .args in
+    let l = c .before .before .before .before .before .before .before .loop in
+    let h = leb-false _ _ (sym (c .before .at-least .ensures) ∙ not-true _ (c .if1 .taken)) in
+    record { most = l .inv .0; none = l .inv .1; found = λ _. subst (λ v. a .last .0 < getD (a .label .now) v 0) (here (c .before .before .before)) h }
 
 sub-r : tie.Need-sub-r Inv-loop μ-loop
 sub-r c = search needs
@@ -55,12 +56,14 @@ loop-less c = search needs
 
 loop-again : tie.Need-loop-again Inv-loop μ-loop
 loop-again c =
-    let a = c .before .before .before .before .before .before .before .before .before .args in
-    let l = c .before .before .before .before .before .before .loop in (
+    let a = c .before .before .before .before .before .before .before .before .before .before .args in
+    let l = c .before .before .before .before .before .before .before .loop in
+    let h = leb-true _ _ (sym (c .before .at-least .ensures) ∙ not-false _ (c .if1 .left)) in
+    let at-r = subst (λ v. getD (a .label .now) v 0 ≤ a .last .0) (here (c .before .before .before)) h in (
       omega (arith, l .inv .0),
-      λ k h i.
+      λ k low i.
           ⊎-elim (λ (le : l .r ≤ k). l .inv .1 k le i)
-          (λ lt. let e : k ≡ l .r - 1 = omega arith in subst (λ n. getD (a .label .now) (getD (a .order .now) n 0) 0 ≤ a .last) (sym e) (subst (λ v. getD (a .label .now) v 0 ≤ a .last) (here (c .before .before)) (c .if1 .left)))
+          (λ lt. let e : k ≡ l .r - 1 = omega arith in subst (λ n. getD (a .label .now) (getD (a .order .now) n 0) 0 ≤ a .last .0) (sym e) at-r)
           (sides (l .r) k),
     )
 
@@ -81,7 +84,8 @@ next-in-spec =
     sub-wide
     shared-slice-read-wide
     wide-requires-2
-    shared-slice-read-if1
+    shared-slice-read-t11
+    at-least-requires
     returns
     sub-r
     loop-less

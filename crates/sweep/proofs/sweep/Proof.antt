@@ -1,24 +1,15 @@
-use lib.ListN.{replicate}
+-- `sweep::sweep` goes down from x to x: what is collected, and what lies below x, hold where the network does.
+use mathlib.Core.Path.{_≡_, refl}
+use native.Mathlib.Omega.{arith}
+use lib.ListN.{replicate, length, getD, length-set}
+use borrow.Author.Needs.{needs}
 use Rattle.labels.specs.State.{graphOf}
 use Rattle.sweep.proofs.Turns.{Sweeping, begins, puttable, collected, ended, onward}
-use mathlib.Core.List.{[], _∷_}
-use mathlib.Core.Path.{_≡_, refl, sym, ap, _∙_}
-use Prim.Native.Nat.{ℕ, suc, _+_, _-_, _*_, _/_, _≤_, _<_}
-use native.Mathlib.Omega.{arith}
-use borrow.Author.Needs.{needs}
-use lib.ListN.{length, getD, set, length-set}
 use Rattle.sweep.proofs.sweep.Statement.{statement}
 use Rattle.sweep.proofs.sweep.Tie as tie
-use Rattle.sweep.proofs.sweep.Reads as reads
-use Rattle.sweep.proofs.sweep.Lts as lts
-use Rattle.buffer.proofs.empty.Reads as empty-reads
-use Rattle.labels.proofs.flood.Reads as flood-reads
-use Rattle.sweep.proofs.collect.Reads as collect-reads
-use Rattle.sweep.proofs.next_in.Reads as next-in-reads
-use Rattle.slices.proofs.wide.Reads as wide-reads
 
 abbrev Inv-loop : tie.InvT-loop
-Inv-loop arcs entry cap first more order begin label₀ stack₀ wait₀ found₀ t x₀ node₀ last₀ label stack wait found x node last = Sweeping (graphOf arcs entry cap begin) first more order label stack wait found x node last × (length label ≡ 160) × (length stack ≡ 160) × (length wait ≡ 66)
+Inv-loop arcs entry cap first more order begin label₀ stack₀ wait₀ found₀ t x₀ node₀ last₀ label stack wait found x node last = Sweeping (graphOf arcs entry cap begin) first more order label stack wait found x node (last .0) × (length label ≡ 160) × (length stack ≡ 160) × (length wait ≡ 66)
 
 abbrev μ-loop : tie.MeasureT-loop
 μ-loop arcs entry cap first more order begin label₀ stack₀ wait₀ found₀ t x₀ node₀ last₀ label stack wait found x node last = x
@@ -30,26 +21,25 @@ wide-requires : tie.Need-wide-requires Inv-loop μ-loop
 wide-requires c κs = search needs
 
 shared-slice-read-label : tie.Need-shared-slice-read-label Inv-loop μ-loop
-shared-slice-read-label c = let s = c .before .before .before .before .before .before .before .before .before in omega (arith, s .pre .0 .t-in, s .pre .0 .same, s .pre .1 .1 .1 .1 .1, c .before .wide .ensures)
+shared-slice-read-label c = let s = c .before .before .before .before .before .before .before .before .before in omega (arith, s .pre .laid .t-in, s .pre .laid .same, s .pre .enters, c .before .wide .ensures)
 
 array-write-label : tie.Need-array-write-label Inv-loop μ-loop
-array-write-label c = let s = c .before .before .before .before .before .before .before .before .before in omega (arith, s .pre .0 .t-in, s .pre .0 .few, s .pre .1 .1 .1 .1 .1, c .before .wide .ensures)
+array-write-label c = let s = c .before .before .before .before .before .before .before .before .before in omega (arith, s .pre .laid .t-in, s .pre .laid .few, s .pre .enters, c .before .wide .ensures)
 
 loop-holds : tie.Need-loop-holds Inv-loop μ-loop
 loop-holds c =
     let s = c .before .before .before .before .before .before .before .before .before in
     let p = s .pre in
     let b = s .args .begin in
-    let q = p .1 .1 .1 .1 .1 in
     let y = getD (s .args .cap .now) (b .node) 0 in
     rw (c .before .wide .ensures .0)
-    (begins (p .0) (p .1 .0) (p .1 .1 .0) (p .1 .1 .1 .0 .0) (p .1 .1 .1 .0 .1) (p .1 .1 .1 .1 .0) (c .before .before .empty .ensures) (b .x .0) (q .0) (q .1) (b .node) y (q .2) refl, length-set (replicate 160 0) (b .node) y, refl, refl)
+    (begins (p .laid) (p .by-order) (p .chains) (p .heads) (p .links) (p .within) (c .before .before .empty .ensures) (b .x .0) (p .begins) (p .some) (b .node) y (p .enters) refl, length-set (replicate 160 0) (b .node) y, refl, refl)
 
 wide-requires-2 : tie.Need-wide-requires-2 Inv-loop μ-loop
 wide-requires-2 c κs = search needs
 
-array-read-y : tie.Need-array-read-y Inv-loop μ-loop
-array-read-y c = let w = c .before .loop .inv .0 .work in omega (arith, w .pile 0 (omega arith) .node, w .laid .few, c .wide2 .ensures)
+array-read-next-in : tie.Need-array-read-next-in Inv-loop μ-loop
+array-read-next-in c = let w = c .before .loop .inv .0 .work in omega (arith, w .pile 0 (omega arith) .node, w .laid .few, c .wide2 .ensures)
 
 step-to-requires : tie.Need-step-to-requires Inv-loop μ-loop
 step-to-requires c κs = search needs
@@ -68,8 +58,8 @@ flood-requires c κs =
     let l = c .before .before .before .before .before .loop .inv .0 in
     rw (c .before .before .before .step-to .ensures, c .before .before .before .before .wide2 .ensures .0) (l .work, ((l .some, l .begun), (l .chains, l .room)))
 
-array-read-y-2 : tie.Need-array-read-y-2 Inv-loop μ-loop
-array-read-y-2 c = search needs
+array-read-next-in-2 : tie.Need-array-read-next-in-2 Inv-loop μ-loop
+array-read-next-in-2 c = search needs
 
 collect-requires : tie.Need-collect-requires Inv-loop μ-loop
 collect-requires c κs =
@@ -127,13 +117,13 @@ sweep-spec =
     array-write-label
     loop-holds
     wide-requires-2
-    array-read-y
+    array-read-next-in
     step-to-requires
     slice-aggregate-flood
     slice-aggregate-flood-2
     slice-aggregate-flood-3
     flood-requires
-    array-read-y-2
+    array-read-next-in-2
     collect-requires
     slice-aggregate-next-in
     sub-next-in
