@@ -1,16 +1,13 @@
 -- DEMAND 3, by induction over plans.
-use mathlib.Core.Path.{_≡_, refl, sym, ap, _∙_, subst}
-use mathlib.Core.Logic.{_↔_, _⊎_, ⊎-map, ⊎-elim}
-use mathlib.Core.Bool.{Bool, false, _&&_, _||_}
+use mathlib.Core.Path.{_≡_, refl, sym, ap, subst}
+use mathlib.Core.Logic.{_↔_, ⊎-map}
 use mathlib.Core.List.{List}
-use Prim.Native.Nat.{ℕ, _+_, _≤_, _<_, min}
+use Prim.Native.Nat.{ℕ, _≤_}
 use native.Mathlib.Omega.{arith}
-use borrow.Author.Tests.{eqb-true, leb-false}
 use lib.Dec.{T, eqb}
-use lib.ListN.{length, getD}
+use borrow.Author.Tests.{eqb-true}
 use Rattle.laws.specs.Tests.{T-true, T-ext, T-and, T-or}
-use Rattle.laws.specs.Members.{_∈_}
-use Rattle.record.specs.Record.{size1, size2, count, listed, isRecord, recordHolds}
+use Rattle.record.specs.Record.{size1, size2, isRecord, recordHolds}
 use Rattle.record.proofs.Bytes.{listed-length}
 use Rattle.record.proofs.Records.{record-is, record-few}
 use Rattle.compose.specs.Compose.{seriesBytes, parallelBytes, Joinable}
@@ -94,7 +91,7 @@ sound (parallel p q) x b =
     subst (Sound (parallel p q)) (sym (e .0)) (parallel-sound (sound p (b .0) (b .2)) (sound q (b .1) (b .3)) (e .1))
 
 module _ (p q : Plan) (x y : List ℕ) (sp : Sound p x) (sq : Sound q y) (e1 : size1 x ≡ size1 y) (e2 : size2 x ≡ size2 y) where
-  pub same-fronts : (x ≡ y) ↔ ((a b : ℕ) → a ≤ size1 x → b ≤ size2 x → PlanHolds p a b ↔ PlanHolds q a b)
+  same-fronts : (x ≡ y) ↔ ((a b : ℕ) → a ≤ size1 x → b ≤ size2 x → PlanHolds p a b ↔ PlanHolds q a b)
   same-fronts =
       let sx : Sized (size1 x) (size2 x) x = record { is = sp .is; one = refl; two = refl } in
       let sy : Sized (size1 x) (size2 x) y = record { is = sq .is; one = sym e1; two = sym e2 } in

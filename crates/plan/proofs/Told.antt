@@ -5,15 +5,15 @@ use mathlib.Core.List.{List, [], _∷_, _++_, Memᴰ·append-left}
 use Prim.Native.Nat.{ℕ}
 use lib.Dec.{ltb}
 use lib.ListN.{length, getD, take, drop}
-use Rattle.laws.specs.Members.{_∈_}
 use lib.Seq.{take-at}
+use Rattle.laws.specs.Members.{_∈_}
 use Rattle.answer.specs.Outcome.{Outcome, success, refused, outcome, filled, written}
 use Rattle.answer.proofs.Outcomes.{outcome-tests, outcome-success, outcome-values}
 use Rattle.compose.specs.Compose.{seriesBytes, parallelBytes, recordTests, joinTests, joinAnswer, joinOut, Joinable}
 use Rattle.compose.proofs.Answers.{joined-joinable}
 use Rattle.compose.proofs.parallel.Reads as parallel-reads
 use Rattle.compose.proofs.series.Reads as series-reads
-use Rattle.search.specs.Search.{searchBytes, roundTests, searchOut}
+use Rattle.search.specs.Search.{searchBytes, roundTests}
 use Rattle.plan.specs.Calls.{SearchCall, JoinCall, Searched, Joined}
 
 -- ---- a call that fills a slice with bytes

@@ -7,8 +7,8 @@ use contract.Lifetimes.{Lfts}
 use denote.Triple.Clauses.{AtExit}
 use borrow.Fn.Kinds.{PK, RK, Dens, Out, resT, endedOf}
 use Rattle.answer.specs.declared.Written.the-variants as written-as
-use Rattle.compose.proofs.parallel.Reads as parallel-reads
 use Rattle.compose.proofs.series.Kinds as join-kinds
+use Rattle.compose.proofs.parallel.Reads as parallel-reads
 use Rattle.compose.proofs.series.Reads as series-reads
 use Rattle.search.proofs.search.Kinds as search-kinds
 use Rattle.search.proofs.search.Reads as search-reads

@@ -5,8 +5,8 @@ use mathlib.Core.List.{List, [], _∷_, Memᴰ·append-left, Memᴰ·append-righ
 use Prim.Native.Nat.{ℕ, _+_, _≤_, _<_}
 use native.Mathlib.Nat.{le-of-eq}
 use native.Mathlib.Omega.{arith}
-use borrow.Author.Tests.{leb-false}
 use lib.ListN.{length}
+use borrow.Author.Tests.{leb-false}
 use Rattle.laws.specs.Members.{_∈_, at-in, here}
 use Rattle.answer.specs.Outcome.{success}
 use Rattle.answer.proofs.Outcomes.{outcome-success}

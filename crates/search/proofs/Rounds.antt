@@ -1,24 +1,21 @@
 -- A round's two orders: a good round may be searched, and what the sweep asks for.
 use mathlib.Core.Path.{_≡_, refl, sym, ap, ap₂, _∙_, subst}
 use mathlib.Core.Logic.{⊎-elim}
-use mathlib.Core.Bool.{Bool, true, false, _&&_}
-use mathlib.Core.List.{List, [], _∷_}
+use mathlib.Core.List.{List}
 use Prim.Native.Nat.{ℕ, zero, suc, _+_, _-_, _*_, _≤_, _<_, min}
 use native.Mathlib.Omega.{arith}
-use borrow.Author.Tests.{eqb-true, eqb-false, eq-eqb, ne-eqb, ltb-true}
 use lib.Dec.{T, eqb, ltb}
-use lib.ListN.{length, getD, drop, set, length-set, length-take, length-drop}
-use lib.Seq.{drop-cons, drop-length, getD-set-same, getD-set-other}
+use lib.ListN.{length, getD}
+use borrow.Author.Tests.{eqb-true, ltb-true}
 use Rattle.laws.specs.Tests.{T-true, T-and, order as sides}
 use Rattle.laws.specs.Members.{_∈_}
-use Rattle.front.specs.declared.Pair.{Pair}
 use Rattle.front.specs.Pair.{pairOf}
 use Rattle.front.specs.Front.{AllWithin}
 use Rattle.orders.specs.Order.{count, order1, order2, isOrder, isRound, isMember, position, Positions}
 use Rattle.orders.proofs.Orders.{order-length}
 use Rattle.orders.proofs.Places.{position-first, position-at, order-positions}
 use Rattle.parts.specs.Study.{Arc, arcsFrom}
-use Rattle.network.specs.Walk.{Network, pathPairs}
+use Rattle.network.specs.Walk.{pathPairs}
 use Rattle.network.specs.Round.{capacity, networkIn}
 use Rattle.network.proofs.Rounds.{position-most, pairs-within}
 use Rattle.network.proofs.Same.{pairs-same}

@@ -1,8 +1,8 @@
 -- The search's answers, and that the orders of a file's round make the round's front.
-use mathlib.Core.Path.{_≡_, refl, sym, ap, ap₂, _∙_, subst}
+use mathlib.Core.Path.{_≡_, sym, ap, ap₂, _∙_, subst}
 use mathlib.Core.Logic.{⊎-elim}
 use mathlib.Core.Bool.{Bool, true, false, not, cond}
-use mathlib.Core.List.{List, [], _∷_, _++_}
+use mathlib.Core.List.{List, [], _∷_}
 use Prim.Native.Nat.{ℕ, _+_, _-_, _*_, _/_, _≤_, _<_}
 use native.Mathlib.Nat.{sub-zero}
 use native.Mathlib.Omega.{arith}
@@ -18,8 +18,8 @@ use Rattle.orders.specs.Order.{count, order1, order2, isRound}
 use Rattle.parts.specs.Study.{Arc, arcsFrom}
 use Rattle.study.specs.File.{trailer, nodesOf, arcsOf, roundsOf, roundOf, studyOf}
 use Rattle.study.specs.Calls.{badOrders, openAnswer, checkTests, checkAnswer, whereGood, lookupPart}
-use Rattle.study.proofs.Trailers.{nodes-length, arcs-length}
-use Rattle.study.proofs.Lookups.{check-ten, check-good, check-refused, open-values, open-fits, study-within, study-round}
+use Rattle.study.proofs.Trailers.{arcs-length}
+use Rattle.study.proofs.Lookups.{check-good, open-values, open-fits, study-within, study-round}
 use Rattle.network.specs.Walk.{pathPairs}
 use Rattle.network.specs.Round.{roundAt, networkIn}
 use Rattle.labels.proofs.Arcs.{arcIn, arcs-in}

@@ -43,13 +43,23 @@ orderNetwork arcs o1 o2 s t =
 
 -- arcs between nodes, and two orders of nodes: each node stands at one place of one order
 pub record Searchable (arcs o1 o2 : List ℕ) (s t : ℕ) : Type 0 where
+  -- 01: A, two bytes each
   pub many : length arcs ≤ 2048
+  -- arcs lead between nodes
   pub ends : (i : ℕ) → i < length arcs → getD arcs i 0 < 160
+  -- the source is a node
   pub source-in : s < 160
+  -- the target is a node
   pub target-in : t < 160
+  -- 01: n1
   pub small1 : length o1 ≤ 64
+  -- 01: n2
   pub small2 : length o2 ≤ 64
+  -- nodes in the class 1 order
   pub nodes1 : (k : ℕ) → k < length o1 → getD o1 k 0 < 160
+  -- nodes in the class 2 order
   pub nodes2 : (k : ℕ) → k < length o2 → getD o2 k 0 < 160
+  -- no node stands twice in the class 1 order
   pub once : (k : ℕ) → k < length o1 → position (getD o1 k 0) o1 ≡ suc k
+  -- no node of the class 2 order stands in it
   pub apart : (v : ℕ) → position v o2 ≤ length o2 → length o1 < position v o1

@@ -1,11 +1,11 @@
 -- `search::search` opens the file, tests the number and the orders, and delivers the front of the orders.
 use mathlib.Core.Path.{_≡_, sym, ap, _∙_}
-use mathlib.Core.Bool.{true, false}
+use mathlib.Core.Bool.{true}
 use Prim.Native.Nat.{_≤_}
 use native.Mathlib.Omega.{arith}
+use lib.ListN.{length, getD}
 use borrow.Author.Needs.{needs}
 use borrow.Author.Tests.{not-true, not-false}
-use lib.ListN.{length, getD, take}
 use Rattle.answer.specs.Outcome.{success, opened, headerValues}
 use Rattle.orders.specs.Order.{count, isRound}
 use Rattle.study.specs.File.{nodesOf}
