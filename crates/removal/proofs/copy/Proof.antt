@@ -1,14 +1,10 @@
-use mathlib.Core.Path.{_≡_, refl, sym, ap, _∙_}
-use Prim.Native.Nat.{ℕ, suc, _+_, _-_, _*_, _/_, _≤_, _<_}
-use native.Mathlib.Omega.{arith}
+-- The loop of `copy` goes up to n.
+use mathlib.Core.Path.{_≡_}
+use Prim.Native.Nat.{_-_, _≤_}
+use lib.ListN.{length}
 use borrow.Author.Needs.{needs}
-use lib.ListN.{length, getD, set, length-set}
 use Rattle.removal.proofs.copy.Statement.{statement}
 use Rattle.removal.proofs.copy.Tie as tie
-use Rattle.removal.proofs.copy.Reads as reads
-use Rattle.removal.proofs.copy.Lts as lts
-use Rattle.trial.proofs.byte.Reads as byte-reads
-use Rattle.trial.proofs.poke.Reads as poke-reads
 
 abbrev Inv-loop : tie.InvT-loop
 Inv-loop from at n to₀ place i₀ to i = (i ≤ n) × (length to ≡ length to₀)

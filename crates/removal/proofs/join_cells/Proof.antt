@@ -1,14 +1,10 @@
-use mathlib.Core.Path.{_≡_, refl, sym, ap, _∙_}
-use Prim.Native.Nat.{ℕ, suc, _+_, _-_, _*_, _/_, _≤_, _<_}
-use native.Mathlib.Omega.{arith}
+-- The loop of `join_cells` goes over the cells of a slot.
+use mathlib.Core.Path.{_≡_}
+use Prim.Native.Nat.{_-_, _≤_}
+use lib.ListN.{length}
 use borrow.Author.Needs.{needs}
-use lib.ListN.{length, getD, set, length-set}
 use Rattle.removal.proofs.join_cells.Statement.{statement}
 use Rattle.removal.proofs.join_cells.Tie as tie
-use Rattle.removal.proofs.join_cells.Reads as reads
-use Rattle.removal.proofs.join_cells.Lts as lts
-use Rattle.trial.proofs.byte.Reads as byte-reads
-use Rattle.trial.proofs.poke.Reads as poke-reads
 
 abbrev Inv-loop : tie.InvT-loop
 Inv-loop kind cells₀ slot at i₀ cells i = (i ≤ 4225) × (length cells ≡ length cells₀)

@@ -1,15 +1,8 @@
-use mathlib.Core.Path.{_≡_, refl, sym, ap, _∙_}
-use Prim.Native.Nat.{ℕ, suc, _+_, _-_, _*_, _/_, _≤_, _<_}
-use native.Mathlib.Omega.{arith}
+-- The loop of `main` makes 400 networks.
+use Prim.Native.Nat.{_-_, _≤_}
 use borrow.Author.Needs.{needs}
-use lib.ListN.{length, getD, set, length-set}
 use Rattle.removal.proofs.main.Statement.{statement}
 use Rattle.removal.proofs.main.Tie as tie
-use Rattle.removal.proofs.main.Reads as reads
-use Rattle.removal.proofs.main.Lts as lts
-use Rattle.removal.proofs.try_network.Reads as try-network-reads
-use Rattle.trial.proofs.line.Reads as line-reads
-use Rattle.trial.proofs.seed.Reads as seed-reads
 
 abbrev Inv-loop : tie.InvT-loop
 Inv-loop counts₀ i₀ t4 t5 t6 t7 t8 counts i = i ≤ 400

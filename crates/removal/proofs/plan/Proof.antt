@@ -1,15 +1,10 @@
-use mathlib.Core.Path.{_≡_, refl, sym, ap, _∙_}
-use Prim.Native.Nat.{ℕ, suc, _+_, _-_, _*_, _/_, _≤_, _<_}
-use native.Mathlib.Omega.{arith}
+-- The loop of `plan` goes over the leaves; no more slots are in use than leaves passed.
+use mathlib.Core.Path.{_≡_}
+use Prim.Native.Nat.{_-_, _≤_}
+use lib.ListN.{length}
 use borrow.Author.Needs.{needs}
-use lib.ListN.{length, getD, set, length-set}
 use Rattle.removal.proofs.plan.Statement.{statement}
 use Rattle.removal.proofs.plan.Tie as tie
-use Rattle.removal.proofs.plan.Reads as reads
-use Rattle.removal.proofs.plan.Lts as lts
-use Rattle.removal.proofs.copy.Reads as copy-reads
-use Rattle.removal.proofs.settle.Reads as settle-reads
-use Rattle.trial.proofs.pick.Reads as pick-reads
 
 abbrev Inv-loop : tie.InvT-loop
 Inv-loop seed leaves fronts tables records₀ cells₀ top₀ i₀ records cells top i = (i ≤ leaves) × (top ≤ i) × (length records ≡ length records₀) × (length cells ≡ length cells₀)

@@ -1,13 +1,10 @@
-use mathlib.Core.Path.{_≡_, refl, sym, ap, _∙_}
-use Prim.Native.Nat.{ℕ, suc, _+_, _-_, _*_, _/_, _≤_, _<_}
-use native.Mathlib.Omega.{arith}
+-- The loop of `rounds_of` makes eight rounds of at most 320 bytes.
+use mathlib.Core.Path.{_≡_}
+use Prim.Native.Nat.{_-_, _*_, _≤_}
+use lib.ListN.{length}
 use borrow.Author.Needs.{needs}
-use lib.ListN.{length, getD, set, length-set}
 use Rattle.removal.proofs.rounds_of.Statement.{statement}
 use Rattle.removal.proofs.rounds_of.Tie as tie
-use Rattle.removal.proofs.rounds_of.Reads as reads
-use Rattle.removal.proofs.rounds_of.Lts as lts
-use Rattle.removal.proofs.networks.round.Reads as round-reads
 
 abbrev Inv-loop : tie.InvT-loop
 Inv-loop seed nodes rounds₀ at₀ r₀ rounds at r = (r ≤ 8) × (at ≤ 320 * r) × (length rounds ≡ length rounds₀)

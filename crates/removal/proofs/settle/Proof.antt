@@ -1,15 +1,10 @@
-use mathlib.Core.Path.{_≡_, refl, sym, ap, _∙_}
-use Prim.Native.Nat.{ℕ, suc, _+_, _-_, _*_, _/_, _≤_, _<_}
-use native.Mathlib.Omega.{arith}
+-- The loop of `settle` halves m, which stays above 0.
+use mathlib.Core.Path.{_≡_}
+use Prim.Native.Nat.{_≤_}
+use lib.ListN.{length}
 use borrow.Author.Needs.{needs}
-use lib.ListN.{length, getD, set, length-set}
 use Rattle.removal.proofs.settle.Statement.{statement}
 use Rattle.removal.proofs.settle.Tie as tie
-use Rattle.removal.proofs.settle.Reads as reads
-use Rattle.removal.proofs.settle.Lts as lts
-use Rattle.removal.proofs.join_cells.Reads as join-cells-reads
-use Rattle.removal.proofs.join_slots.Reads as join-slots-reads
-use Rattle.trial.proofs.pick.Reads as pick-reads
 
 abbrev Inv-loop : tie.InvT-loop
 Inv-loop seed i top records₀ cells₀ m₀ left₀ records cells m left = (1 ≤ m) × (m ≤ 65) × (left ≤ top) × (length records ≡ length records₀) × (length cells ≡ length cells₀)

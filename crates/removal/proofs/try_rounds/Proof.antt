@@ -1,21 +1,10 @@
-use mathlib.Core.Path.{_≡_, refl, sym, ap, _∙_}
-use Prim.Native.Nat.{ℕ, suc, _+_, _-_, _*_, _/_, _≤_, _<_}
-use native.Mathlib.Omega.{arith}
+-- The loop of `try_rounds` goes over the eight rounds. The arrays keep their lengths.
+use mathlib.Core.Path.{_≡_}
+use Prim.Native.Nat.{_-_, _*_, _≤_}
+use lib.ListN.{length}
 use borrow.Author.Needs.{needs}
-use lib.ListN.{length, getD, set, length-set}
 use Rattle.removal.proofs.try_rounds.Statement.{statement}
 use Rattle.removal.proofs.try_rounds.Tie as tie
-use Rattle.removal.proofs.try_rounds.Reads as reads
-use Rattle.removal.proofs.try_rounds.Lts as lts
-use Rattle.removal.proofs.copy.Reads as copy-reads
-use Rattle.removal.proofs.eight.Reads as eight-reads
-use Rattle.removal.proofs.leaves_of.Reads as leaves-of-reads
-use Rattle.removal.proofs.part.Reads as part-reads
-use Rattle.removal.proofs.plain.differ.Reads as differ-reads
-use Rattle.removal.proofs.plan.Reads as plan-reads
-use Rattle.removal.proofs.try_round.Reads as try-round-reads
-use Rattle.trial.proofs.byte.Reads as byte-reads
-use Rattle.trial.proofs.pick.Reads as pick-reads
 
 abbrev Inv-loop : tie.InvT-loop
 Inv-loop seed net file arcs rounds small counts fronts₀ tables₀ searched₀ pairs₀ wrong₀ per at₀ r₀ fronts tables searched pairs wrong at r = (r ≤ 8) × (at ≤ 320 * r) × (length fronts ≡ 1280) × (length tables ≡ 33800)
@@ -92,35 +81,14 @@ loop-less c = search needs
 loop-again : tie.Need-loop-again Inv-loop μ-loop
 loop-again c = search needs
 
-pick-requires : tie.Need-pick-requires Inv-loop μ-loop
-pick-requires c κs = search needs
+slice-aggregate-try-plan : tie.Need-slice-aggregate-try-plan Inv-loop μ-loop
+slice-aggregate-try-plan c = search needs
 
-leaves-of-requires : tie.Need-leaves-of-requires Inv-loop μ-loop
-leaves-of-requires c κs = search needs
+slice-aggregate-try-plan-2 : tie.Need-slice-aggregate-try-plan-2 Inv-loop μ-loop
+slice-aggregate-try-plan-2 c = search needs
 
-slice-aggregate-plan : tie.Need-slice-aggregate-plan Inv-loop μ-loop
-slice-aggregate-plan c = search needs
-
-slice-aggregate-plan-2 : tie.Need-slice-aggregate-plan-2 Inv-loop μ-loop
-slice-aggregate-plan-2 c = search needs
-
-slice-aggregate-plan-3 : tie.Need-slice-aggregate-plan-3 Inv-loop μ-loop
-slice-aggregate-plan-3 c = search needs
-
-slice-aggregate-plan-4 : tie.Need-slice-aggregate-plan-4 Inv-loop μ-loop
-slice-aggregate-plan-4 c = search needs
-
-plan-requires : tie.Need-plan-requires Inv-loop μ-loop
-plan-requires c κs = search needs
-
-slice-aggregate-differ : tie.Need-slice-aggregate-differ Inv-loop μ-loop
-slice-aggregate-differ c = search needs
-
-slice-aggregate-differ-2 : tie.Need-slice-aggregate-differ-2 Inv-loop μ-loop
-slice-aggregate-differ-2 c = search needs
-
-differ-requires : tie.Need-differ-requires Inv-loop μ-loop
-differ-requires c κs = search needs
+try-plan-requires : tie.Need-try-plan-requires Inv-loop μ-loop
+try-plan-requires c κs = search needs
 
 add-wrong-2 : tie.Need-add-wrong-2 Inv-loop μ-loop
 add-wrong-2 c = search needs
@@ -128,11 +96,11 @@ add-wrong-2 c = search needs
 eight-requires : tie.Need-eight-requires Inv-loop μ-loop
 eight-requires c κs = search needs
 
-add-t52 : tie.Need-add-t52 Inv-loop μ-loop
-add-t52 c = search needs
+add-t40 : tie.Need-add-t40 Inv-loop μ-loop
+add-t40 c = search needs
 
-add-t59 : tie.Need-add-t59 Inv-loop μ-loop
-add-t59 c = search needs
+add-t47 : tie.Need-add-t47 Inv-loop μ-loop
+add-t47 c = search needs
 
 returns : tie.Need-returns Inv-loop μ-loop
 returns c = search needs
@@ -166,18 +134,11 @@ try-rounds-spec =
     add-r
     loop-less
     loop-again
-    pick-requires
-    leaves-of-requires
-    slice-aggregate-plan
-    slice-aggregate-plan-2
-    slice-aggregate-plan-3
-    slice-aggregate-plan-4
-    plan-requires
-    slice-aggregate-differ
-    slice-aggregate-differ-2
-    differ-requires
+    slice-aggregate-try-plan
+    slice-aggregate-try-plan-2
+    try-plan-requires
     add-wrong-2
     eight-requires
-    add-t52
-    add-t59
+    add-t40
+    add-t47
     returns)

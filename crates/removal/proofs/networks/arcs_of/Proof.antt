@@ -1,13 +1,10 @@
-use mathlib.Core.Path.{_≡_, refl, sym, ap, _∙_}
-use Prim.Native.Nat.{ℕ, suc, _+_, _-_, _*_, _/_, _≤_, _<_}
-use native.Mathlib.Omega.{arith}
+-- The loop of `arcs_of` goes up to the number of arcs.
+use mathlib.Core.Path.{_≡_}
+use Prim.Native.Nat.{_-_, _≤_}
+use lib.ListN.{length}
 use borrow.Author.Needs.{needs}
-use lib.ListN.{length, getD, set, length-set}
 use Rattle.removal.proofs.networks.arcs_of.Statement.{statement}
 use Rattle.removal.proofs.networks.arcs_of.Tie as tie
-use Rattle.removal.proofs.networks.arcs_of.Reads as reads
-use Rattle.removal.proofs.networks.arcs_of.Lts as lts
-use Rattle.removal.proofs.networks.arc.Reads as arc-reads
 
 abbrev Inv-loop : tie.InvT-loop
 Inv-loop seed s arcs₀ i₀ arcs i = (i ≤ s .arcs) × (length arcs ≡ length arcs₀)

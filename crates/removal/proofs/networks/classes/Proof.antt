@@ -1,15 +1,10 @@
-use mathlib.Core.Path.{_≡_, refl, sym, ap, _∙_}
-use Prim.Native.Nat.{ℕ, suc, _+_, _-_, _*_, _/_, _≤_, _<_}
-use native.Mathlib.Omega.{arith}
+-- The loop of `classes` goes up to the number of nodes; no class has more members than nodes passed.
+use mathlib.Core.Path.{_≡_}
+use Prim.Native.Nat.{_-_, _≤_}
+use lib.ListN.{length}
 use borrow.Author.Needs.{needs}
-use lib.ListN.{length, getD, set, length-set}
 use Rattle.removal.proofs.networks.classes.Statement.{statement}
 use Rattle.removal.proofs.networks.classes.Tie as tie
-use Rattle.removal.proofs.networks.classes.Reads as reads
-use Rattle.removal.proofs.networks.classes.Lts as lts
-use Rattle.removal.proofs.networks.flag.Reads as flag-reads
-use Rattle.trial.proofs.pick.Reads as pick-reads
-use Rattle.trial.proofs.poke.Reads as poke-reads
 
 abbrev Inv-loop : tie.InvT-loop
 Inv-loop seed s nodes₀ v₀ n1₀ n2₀ nodes v n1 n2 = (v ≤ 160) × (n1 ≤ v) × (n2 ≤ v) × (length nodes ≡ length nodes₀)

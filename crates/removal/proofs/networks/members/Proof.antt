@@ -1,15 +1,10 @@
-use mathlib.Core.Path.{_≡_, refl, sym, ap, _∙_}
-use Prim.Native.Nat.{ℕ, suc, _+_, _-_, _*_, _/_, _≤_, _<_}
-use native.Mathlib.Omega.{arith}
+-- The loop of `members` goes over the nodes; no more places are filled than nodes passed.
+use mathlib.Core.Path.{_≡_}
+use Prim.Native.Nat.{_+_, _-_, _≤_}
+use lib.ListN.{length}
 use borrow.Author.Needs.{needs}
-use lib.ListN.{length, getD, set, length-set}
 use Rattle.removal.proofs.networks.members.Statement.{statement}
 use Rattle.removal.proofs.networks.members.Tie as tie
-use Rattle.removal.proofs.networks.members.Reads as reads
-use Rattle.removal.proofs.networks.members.Lts as lts
-use Rattle.removal.proofs.networks.flag.Reads as flag-reads
-use Rattle.trial.proofs.byte.Reads as byte-reads
-use Rattle.trial.proofs.poke.Reads as poke-reads
 
 abbrev Inv-loop : tie.InvT-loop
 Inv-loop nodes class out₀ at k₀ v₀ out k v = (k ≤ at + v) × (v ≤ length nodes) × (length out ≡ length out₀)

@@ -1,14 +1,8 @@
-use mathlib.Core.Path.{_≡_, refl, sym, ap, _∙_}
-use Prim.Native.Nat.{ℕ, suc, _+_, _-_, _*_, _/_, _≤_, _<_}
-use native.Mathlib.Omega.{arith}
+-- The loop of `near` makes five turns.
+use Prim.Native.Nat.{_-_, _≤_}
 use borrow.Author.Needs.{needs}
-use lib.ListN.{length, getD, set, length-set}
 use Rattle.removal.proofs.networks.near.Statement.{statement}
 use Rattle.removal.proofs.networks.near.Tie as tie
-use Rattle.removal.proofs.networks.near.Reads as reads
-use Rattle.removal.proofs.networks.near.Lts as lts
-use Rattle.removal.proofs.networks.far.Reads as far-reads
-use Rattle.trial.proofs.pick.Reads as pick-reads
 
 abbrev Inv-loop : tie.InvT-loop
 Inv-loop seed u i n best₀ k₀ best k = k ≤ 5

@@ -1,15 +1,10 @@
-use mathlib.Core.Path.{_≡_, refl, sym, ap, _∙_}
-use Prim.Native.Nat.{ℕ, suc, _+_, _-_, _*_, _/_, _≤_, _<_}
-use native.Mathlib.Omega.{arith}
+-- The loop of `shuffle` goes up to the end of the part.
+use mathlib.Core.Path.{_≡_}
+use Prim.Native.Nat.{_-_, _≤_}
+use lib.ListN.{length}
 use borrow.Author.Needs.{needs}
-use lib.ListN.{length, getD, set, length-set}
 use Rattle.removal.proofs.networks.shuffle.Statement.{statement}
 use Rattle.removal.proofs.networks.shuffle.Tie as tie
-use Rattle.removal.proofs.networks.shuffle.Reads as reads
-use Rattle.removal.proofs.networks.shuffle.Lts as lts
-use Rattle.trial.proofs.byte.Reads as byte-reads
-use Rattle.trial.proofs.pick.Reads as pick-reads
-use Rattle.trial.proofs.poke.Reads as poke-reads
 
 abbrev Inv-loop : tie.InvT-loop
 Inv-loop seed out₀ at end i₀ out i = (at ≤ i) × (length out ≡ length out₀)

@@ -1,19 +1,19 @@
+-- `walk` calls itself with one step fewer left; its loop goes over the arcs.
 use mathlib.Core.Path.{_≡_}
-use native.Mathlib.Omega.{arith}
-use borrow.Author.Needs.{needs}
-use lib.ListN.{length}
 use Prim.Native.Nat.{ℕ, _+_, _-_, _≤_, _<_}
+use lib.ListN.{length}
+use borrow.Author.Needs.{needs}
 use borrow.Fn.Kinds.{In}
 use borrow.Fn.PlainCycle.{Measures, is, falls, and}
-use Rattle.removal.proofs.plain.walk.Reads as walk
-use Rattle.removal.proofs.plain.walk.Kinds as walk-kinds
-use Rattle.removal.proofs.plain.+walk.Lts-walk as walk-lts
-use Rattle.removal.proofs.plain.place.Reads as place-reads
-use Rattle.removal.proofs.plain.smaller.Reads as smaller-reads
 use Rattle.trial.proofs.byte.Reads as byte-reads
 use Rattle.trial.proofs.poke.Reads as poke-reads
 use Rattle.removal.proofs.plain.+walk.{statement}
+use Rattle.removal.proofs.plain.walk.Kinds as walk-kinds
+use Rattle.removal.proofs.plain.+walk.Lts-walk as walk-lts
 use Rattle.removal.proofs.plain.+walk.Tie.{close}
+use Rattle.removal.proofs.plain.walk.Reads as walk
+use Rattle.removal.proofs.plain.place.Reads as place-reads
+use Rattle.removal.proofs.plain.smaller.Reads as smaller-reads
 
 abbrev μ-walk : Measures 4 walk-kinds.ps ℕ
 μ-walk κs a = a .1 .1 .1 .1 .1 .1 .1 .0

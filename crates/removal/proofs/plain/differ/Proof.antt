@@ -1,15 +1,8 @@
-use mathlib.Core.Path.{_≡_, refl, sym, ap, _∙_}
-use Prim.Native.Nat.{ℕ, suc, _+_, _-_, _*_, _/_, _≤_, _<_}
-use native.Mathlib.Omega.{arith}
+-- The loop of `differ` goes over the cells.
+use Prim.Native.Nat.{_-_, _≤_}
 use borrow.Author.Needs.{needs}
-use lib.ListN.{length, getD, set, length-set}
 use Rattle.removal.proofs.plain.differ.Statement.{statement}
 use Rattle.removal.proofs.plain.differ.Tie as tie
-use Rattle.removal.proofs.plain.differ.Reads as reads
-use Rattle.removal.proofs.plain.differ.Lts as lts
-use Rattle.removal.proofs.plain.flag.Reads as flag-reads
-use Rattle.removal.proofs.plain.record_holds.Reads as record-holds-reads
-use Rattle.trial.proofs.byte.Reads as byte-reads
 
 abbrev Inv-loop : tie.InvT-loop
 Inv-loop «record» cells wrong₀ i₀ wrong i = i ≤ 4225

@@ -1,16 +1,10 @@
-use mathlib.Core.Path.{_≡_, refl, sym, ap, _∙_}
-use Prim.Native.Nat.{ℕ, suc, _+_, _-_, _*_, _/_, _≤_, _<_}
-use native.Mathlib.Omega.{arith}
+-- The loop of `front` goes down from n1 + 1; no more pairs are listed than passed.
+use mathlib.Core.Path.{_≡_}
+use Prim.Native.Nat.{_+_, _≤_}
+use lib.ListN.{length}
 use borrow.Author.Needs.{needs}
-use lib.ListN.{length, getD, set, length-set}
 use Rattle.removal.proofs.plain.front.Statement.{statement}
 use Rattle.removal.proofs.plain.front.Tie as tie
-use Rattle.removal.proofs.plain.front.Reads as reads
-use Rattle.removal.proofs.plain.front.Lts as lts
-use Rattle.removal.proofs.plain.flag.Reads as flag-reads
-use Rattle.removal.proofs.plain.highest.Reads as highest-reads
-use Rattle.removal.proofs.plain.walk.Reads as walk-reads
-use Rattle.trial.proofs.poke.Reads as poke-reads
 
 abbrev Inv-loop : tie.InvT-loop
 Inv-loop arcs order1 order2 out₀ n1 n2 pairs last₀ k₀ x₀ out last k x = (k + x ≤ n1 + 1) × (n1 ≤ 255) × (n2 ≤ 255) × (length out ≡ length out₀)

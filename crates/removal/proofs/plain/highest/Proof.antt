@@ -1,13 +1,8 @@
-use mathlib.Core.Path.{_≡_, refl, sym, ap, _∙_}
-use Prim.Native.Nat.{ℕ, suc, _+_, _-_, _*_, _/_, _≤_, _<_}
-use native.Mathlib.Omega.{arith}
+-- The loop of `highest` goes down from n2 + 1.
+use Prim.Native.Nat.{_+_, _≤_}
 use borrow.Author.Needs.{needs}
-use lib.ListN.{length, getD, set, length-set}
 use Rattle.removal.proofs.plain.highest.Statement.{statement}
 use Rattle.removal.proofs.plain.highest.Tie as tie
-use Rattle.removal.proofs.plain.highest.Reads as reads
-use Rattle.removal.proofs.plain.highest.Lts as lts
-use Rattle.trial.proofs.byte.Reads as byte-reads
 
 abbrev Inv-loop : tie.InvT-loop
 Inv-loop pairs p1 n2 y₀ y = y ≤ n2 + 1

@@ -1,15 +1,10 @@
-use mathlib.Core.Path.{_≡_, refl, sym, ap, _∙_}
-use Prim.Native.Nat.{ℕ, suc, _+_, _-_, _*_, _/_, _≤_, _<_}
-use native.Mathlib.Omega.{arith}
+-- The loop of `joined` makes at most 256 passes.
+use mathlib.Core.Path.{_≡_}
+use Prim.Native.Nat.{_≤_}
+use lib.ListN.{length}
 use borrow.Author.Needs.{needs}
-use lib.ListN.{length, getD, set, length-set}
 use Rattle.removal.proofs.plain.joined.Statement.{statement}
 use Rattle.removal.proofs.plain.joined.Tie as tie
-use Rattle.removal.proofs.plain.joined.Reads as reads
-use Rattle.removal.proofs.plain.joined.Lts as lts
-use Rattle.removal.proofs.plain.pass.Reads as pass-reads
-use Rattle.trial.proofs.byte.Reads as byte-reads
-use Rattle.trial.proofs.poke.Reads as poke-reads
 
 abbrev Inv-loop : tie.InvT-loop
 Inv-loop arcs works reached₀ left₀ reached left = (left ≤ 256) × (length reached ≡ 256)

@@ -1,14 +1,9 @@
-use mathlib.Core.Path.{_≡_, refl, sym, ap, _∙_}
-use Prim.Native.Nat.{ℕ, suc, _+_, _-_, _*_, _/_, _≤_, _<_}
-use native.Mathlib.Omega.{arith}
+-- The loop of `of_class` goes over the nodes; no more are counted than passed.
+use Prim.Native.Nat.{_-_, _≤_}
+use lib.ListN.{length}
 use borrow.Author.Needs.{needs}
-use lib.ListN.{length, getD, set, length-set}
 use Rattle.removal.proofs.plain.of_class.Statement.{statement}
 use Rattle.removal.proofs.plain.of_class.Tie as tie
-use Rattle.removal.proofs.plain.of_class.Reads as reads
-use Rattle.removal.proofs.plain.of_class.Lts as lts
-use Rattle.removal.proofs.plain.flag.Reads as flag-reads
-use Rattle.trial.proofs.byte.Reads as byte-reads
 
 abbrev Inv-loop : tie.InvT-loop
 Inv-loop nodes class n₀ v₀ n v = (n ≤ v) × (v ≤ length nodes)

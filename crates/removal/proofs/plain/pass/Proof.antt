@@ -1,14 +1,10 @@
-use mathlib.Core.Path.{_≡_, refl, sym, ap, _∙_}
-use Prim.Native.Nat.{ℕ, suc, _+_, _-_, _*_, _/_, _≤_, _<_}
-use native.Mathlib.Omega.{arith}
+-- The loop of `pass` goes over the arcs.
+use mathlib.Core.Path.{_≡_}
+use Prim.Native.Nat.{_+_, _-_, _≤_}
+use lib.ListN.{length}
 use borrow.Author.Needs.{needs}
-use lib.ListN.{length, getD, set, length-set}
 use Rattle.removal.proofs.plain.pass.Statement.{statement}
 use Rattle.removal.proofs.plain.pass.Tie as tie
-use Rattle.removal.proofs.plain.pass.Reads as reads
-use Rattle.removal.proofs.plain.pass.Lts as lts
-use Rattle.trial.proofs.byte.Reads as byte-reads
-use Rattle.trial.proofs.poke.Reads as poke-reads
 
 abbrev Inv-loop : tie.InvT-loop
 Inv-loop arcs works reached₀ more₀ i₀ reached more i = (i ≤ length arcs + 1) × (length reached ≡ length reached₀)

@@ -1,13 +1,8 @@
-use mathlib.Core.Path.{_≡_, refl, sym, ap, _∙_}
-use Prim.Native.Nat.{ℕ, suc, _+_, _-_, _*_, _/_, _≤_, _<_}
-use native.Mathlib.Omega.{arith}
+-- The loop of `place` goes up the order.
+use Prim.Native.Nat.{_-_, _≤_}
 use borrow.Author.Needs.{needs}
-use lib.ListN.{length, getD, set, length-set}
 use Rattle.removal.proofs.plain.place.Statement.{statement}
 use Rattle.removal.proofs.plain.place.Tie as tie
-use Rattle.removal.proofs.plain.place.Reads as reads
-use Rattle.removal.proofs.plain.place.Lts as lts
-use Rattle.trial.proofs.byte.Reads as byte-reads
 
 abbrev Inv-loop : tie.InvT-loop
 Inv-loop v order n k₀ k = (k ≤ n) × (n ≤ 255)

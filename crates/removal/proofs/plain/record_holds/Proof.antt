@@ -1,13 +1,8 @@
-use mathlib.Core.Path.{_≡_, refl, sym, ap, _∙_}
-use Prim.Native.Nat.{ℕ, suc, _+_, _-_, _*_, _/_, _≤_, _<_}
-use native.Mathlib.Omega.{arith}
+-- The loop of `record_holds` goes over the pairs.
+use Prim.Native.Nat.{_-_, _≤_}
 use borrow.Author.Needs.{needs}
-use lib.ListN.{length, getD, set, length-set}
 use Rattle.removal.proofs.plain.record_holds.Statement.{statement}
 use Rattle.removal.proofs.plain.record_holds.Tie as tie
-use Rattle.removal.proofs.plain.record_holds.Reads as reads
-use Rattle.removal.proofs.plain.record_holds.Lts as lts
-use Rattle.trial.proofs.byte.Reads as byte-reads
 
 abbrev Inv-loop : tie.InvT-loop
 Inv-loop «record» a b k i₀ holds₀ i holds = (i ≤ k) × (k ≤ 255)

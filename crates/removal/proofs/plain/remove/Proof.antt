@@ -1,15 +1,10 @@
-use mathlib.Core.Path.{_≡_, refl, sym, ap, _∙_}
-use Prim.Native.Nat.{ℕ, suc, _+_, _-_, _*_, _/_, _≤_, _<_}
-use native.Mathlib.Omega.{arith}
+-- The loop of `remove` goes up to the smaller of n and the order's length.
+use mathlib.Core.Path.{_≡_}
+use Prim.Native.Nat.{_-_, _≤_}
+use lib.ListN.{length}
 use borrow.Author.Needs.{needs}
-use lib.ListN.{length, getD, set, length-set}
 use Rattle.removal.proofs.plain.remove.Statement.{statement}
 use Rattle.removal.proofs.plain.remove.Tie as tie
-use Rattle.removal.proofs.plain.remove.Reads as reads
-use Rattle.removal.proofs.plain.remove.Lts as lts
-use Rattle.removal.proofs.plain.least.Reads as least-reads
-use Rattle.trial.proofs.byte.Reads as byte-reads
-use Rattle.trial.proofs.poke.Reads as poke-reads
 
 abbrev Inv-loop : tie.InvT-loop
 Inv-loop order n works₀ m k₀ works k = (k ≤ m) × (m ≤ length order) × (length works ≡ length works₀)

@@ -1,14 +1,10 @@
-use mathlib.Core.Path.{_≡_, refl, sym, ap, _∙_}
-use Prim.Native.Nat.{ℕ, suc, _+_, _-_, _*_, _/_, _≤_, _<_}
-use native.Mathlib.Omega.{arith}
+-- The loop of `table` goes over the cells.
+use mathlib.Core.Path.{_≡_}
+use Prim.Native.Nat.{_-_, _≤_}
+use lib.ListN.{length}
 use borrow.Author.Needs.{needs}
-use lib.ListN.{length, getD, set, length-set}
 use Rattle.removal.proofs.plain.table.Statement.{statement}
 use Rattle.removal.proofs.plain.table.Tie as tie
-use Rattle.removal.proofs.plain.table.Reads as reads
-use Rattle.removal.proofs.plain.table.Lts as lts
-use Rattle.removal.proofs.plain.holds_at.Reads as holds-at-reads
-use Rattle.trial.proofs.poke.Reads as poke-reads
 
 abbrev Inv-loop : tie.InvT-loop
 Inv-loop arcs order1 order2 cells₀ i₀ cells i = (i ≤ 4225) × (length cells ≡ length cells₀)
