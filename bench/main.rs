@@ -53,16 +53,17 @@ fn main() {
         (networks::geometric("geometric, A 1,000", 130, 500, rng), 64, 64),
         (networks::ring("ring with chords", 130, 60, rng), 64, 64),
     ];
-    println!("{:<20} {:>10} {:>10} {:>10} {:>9} {:>9} {:>6}", "network", "library", "maxcap", "sweep", "/ maxcap", "/ sweep", "pairs");
+    println!("{:<20} {:>10} {:>10} {:>10} {:>9} {:>9} {:>6} {:>6}", "network", "library", "maxcap", "sweep", "/ maxcap", "/ sweep", "pairs", "looks");
     let (mut to_maxcap, mut to_sweep) = (0.0, 0.0);
     for (net, n1, n2) in &cases {
         let file = networks::file(net, *n1, *n2, ROUNDS, rng);
-        let mut pairs = 0;
+        let (mut pairs, mut looks) = (0, 0);
         for r in 0..ROUNDS {
             let (mut a, mut b, mut c) = ([7u8; 133], [7u8; 133], [7u8; 133]);
             let (x, y, z) = (library(&file, r, &mut a), maxcap::search(&file, r, &mut b), sweep::search(&file, r, &mut c));
             assert!(x == y && y == z && a == b && b == c, "{}: the three differ in round {}", net.name, r);
             pairs += a[2] as usize;
+            looks = looks.max(sweep::relaxations(&file, r));
         }
         let mut times = [vec![], vec![], vec![]];
         for _ in 0..REPEATS {
@@ -73,8 +74,14 @@ fn main() {
         let [l, m, s] = times.map(median);
         to_maxcap += (l / m).ln();
         to_sweep += (l / s).ln();
-        println!("{:<20} {:>7.0} ns {:>7.0} ns {:>7.0} ns {:>9.3} {:>9.3} {:>6.2}", net.name, l, m, s, l / m, l / s, pairs as f64 / ROUNDS as f64);
+        let bound = (n2 + 1) * 2 * net.edges.len();
+        assert!(looks <= bound);
+        println!(
+            "{:<20} {:>7.0} ns {:>7.0} ns {:>7.0} ns {:>9.3} {:>9.3} {:>6.2} {:>6.3}",
+            net.name, l, m, s, l / m, l / s, pairs as f64 / ROUNDS as f64, looks as f64 / bound as f64
+        );
     }
     let n = cases.len() as f64;
+    println!("pairs: a round on average; looks: arcs looked at in the worst round, as a part of (n2 + 1) A");
     println!("geometric mean: {:.3} of BO-MaxCapPath, {:.3} of the same sweep in safe Rust", (to_maxcap / n).exp(), (to_sweep / n).exp());
 }

@@ -3,6 +3,17 @@
 use crate::study;
 
 pub fn search(file: &[u8], r: usize, out: &mut [u8]) -> Result<usize, u32> {
+    run::<false>(file, r, out, &mut 0)
+}
+
+/// How many arcs a search looks at, the same ones again included.
+pub fn relaxations(file: &[u8], r: usize) -> usize {
+    let mut looks = 0;
+    run::<true>(file, r, &mut [0; 133], &mut looks).ok();
+    looks
+}
+
+fn run<const COUNT: bool>(file: &[u8], r: usize, out: &mut [u8], looks: &mut usize) -> Result<usize, u32> {
     let st = study::open(file)?;
     let (o1, o2) = study::round(&st, r)?;
     let (entry, cap) = study::capacities(st.n1, st.n2, o1, o2);
@@ -32,6 +43,9 @@ pub fn search(file: &[u8], r: usize, out: &mut [u8]) -> Result<usize, u32> {
                 top -= 1;
                 let mut i = first[stack[top] as usize] as usize;
                 while i > 0 {
+                    if COUNT {
+                        *looks += 1;
+                    }
                     let p = i - 1;
                     i = more[p] as usize;
                     let from = st.arcs[2 * p];
