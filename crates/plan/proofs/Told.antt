@@ -14,7 +14,7 @@ use Rattle.compose.proofs.Answers.{joined-joinable}
 use Rattle.compose.proofs.parallel.Reads as parallel-reads
 use Rattle.compose.proofs.series.Reads as series-reads
 use Rattle.search.specs.Search.{searchBytes, roundTests}
-use Rattle.plan.specs.Calls.{SearchCall, JoinCall, Searched, Joined}
+use Rattle.plan.specs.Calls.{SearchCall, fileOf, roundOf, lentTo, leftBy, JoinCall, firstOf, secondOf, lentToJoin, leftByJoin, Searched, Joined}
 
 -- ---- a call that fills a slice with bytes
 module _ (ts : List (ℕ × Bool)) (bytes out : List ℕ) where
@@ -34,28 +34,30 @@ module _ (ts : List (ℕ × Bool)) (bytes out : List ℕ) where
   untouched : (n : ℕ) (exit : List ℕ) → answer ≡ refused n → exit ≡ filled answer bytes out → exit ≡ out
   untouched n exit e f = f ∙ ap (λ (a : Outcome). filled a bytes out) e
 
+-- number 15, the last test
+abbrev room : List ℕ → List ℕ → List (ℕ × Bool)
+room bytes out = (15, ltb (length out) (length bytes)) ∷ []
+
 -- ---- the search
+abbrev searchTests : SearchCall → List (ℕ × Bool)
+searchTests c = roundTests (fileOf c) (roundOf c) ++ room (searchBytes (fileOf c) (roundOf c)) (lentTo c)
+
 pub search-wrote : (f : List ℕ) (r : ℕ) (x : List ℕ) → Searched f r x → x ≡ searchBytes f r
 search-wrote f r x s =
-    let a = s .call .args in
-    let b = searchBytes (a .0 .now) (a .1 .0) in
-    let ts = roundTests (a .0 .now) (a .1 .0) ++ (15, ltb (length (a .1 .1 .0 .now)) (length b)) ∷ [] in
+    let c = s .call in
+    let b = searchBytes (fileOf c) (roundOf c) in
     rw (← s .file-is, ← s .round-is)
-    (wrote ts b (a .1 .1 .0 .now) (s .bytes) x (s .call .exit .1 .1 .0 .now) (sym (s .call .kept .0) ∙ ap written (s .answer-is)) (s .call .kept .1) (s .record-is))
+    (wrote (searchTests c) b (lentTo c) (s .bytes) x (leftBy c) (sym (c .kept .0) ∙ ap written (s .answer-is)) (c .kept .1) (s .record-is))
 
 pub search-passed : (f : List ℕ) (r : ℕ) (x : List ℕ) → Searched f r x → (t : ℕ × Bool) → t ∈ roundTests f r → t .1 ≡ false
 search-passed f r x s =
-    let a = s .call .args in
-    let b = searchBytes (a .0 .now) (a .1 .0) in
-    let last : List (ℕ × Bool) = (15, ltb (length (a .1 .1 .0 .now)) (length b)) ∷ [] in
+    let c = s .call in
+    let b = searchBytes (fileOf c) (roundOf c) in
     rw (← s .file-is, ← s .round-is)
-    (λ t m. passed (roundTests (a .0 .now) (a .1 .0) ++ last) b (a .1 .1 .0 .now) (s .bytes) (sym (s .call .kept .0) ∙ ap written (s .answer-is)) t (Memᴰ·append-left last m))
+    (λ t m. passed (searchTests c) b (lentTo c) (s .bytes) (sym (c .kept .0) ∙ ap written (s .answer-is)) t (Memᴰ·append-left (room b (lentTo c)) m))
 
-pub search-kept : (c : SearchCall) (n : ℕ) → written (c .result) ≡ refused n → c .exit .1 .1 .0 .now ≡ c .args .1 .1 .0 .now
-search-kept c n e =
-    let a = c .args in
-    let b = searchBytes (a .0 .now) (a .1 .0) in
-    untouched (roundTests (a .0 .now) (a .1 .0) ++ (15, ltb (length (a .1 .1 .0 .now)) (length b)) ∷ []) b (a .1 .1 .0 .now) n (c .exit .1 .1 .0 .now) (sym (c .kept .0) ∙ e) (c .kept .1)
+pub search-kept : (c : SearchCall) (n : ℕ) → written (c .result) ≡ refused n → leftBy c ≡ lentTo c
+search-kept c n e = untouched (searchTests c) (searchBytes (fileOf c) (roundOf c)) (lentTo c) n (leftBy c) (sym (c .kept .0) ∙ e) (c .kept .1)
 
 -- ---- series and parallel: a call that writes what `by` makes of two records
 module _ (by : List ℕ → List ℕ → List ℕ) where
@@ -64,7 +66,7 @@ module _ (by : List ℕ → List ℕ → List ℕ) where
     wrote (joinTests y z (by y z) (length out)) (by y z) out n x exit e f g,
     joined-joinable y z
         (outcome-success (recordTests y z) (0 ∷ [])
-        (λ t m. passed (joinTests y z (by y z) (length out)) (by y z) out n e t (Memᴰ·append-left ((15, ltb (length out) (length (by y z))) ∷ []) m))),
+        (λ t m. passed (joinTests y z (by y z) (length out)) (by y z) out n e t (Memᴰ·append-left (room (by y z) out) m))),
   )
 
   join-kept : (y z out exit : List ℕ) (n : ℕ) → joinAnswer y z (by y z) (length out) ≡ refused n → exit ≡ joinOut y z (by y z) out → exit ≡ out
@@ -72,18 +74,18 @@ module _ (by : List ℕ → List ℕ → List ℕ) where
 
 pub series-wrote : (y z x : List ℕ) → Joined series-reads.Learnt y z x → (x ≡ seriesBytes y z) × Joinable y z
 series-wrote y z x j =
-    let a = j .call .args in
-    rw (← j .left-is, ← j .right-is)
-    (join-wrote seriesBytes (a .0 .now) (a .1 .0 .now) x (a .1 .1 .0 .now) (j .call .exit .1 .1 .0 .now) (j .bytes) (sym (j .call .kept .0) ∙ ap written (j .answer-is)) (j .call .kept .1) (j .record-is))
+    let c = j .call in
+    rw (← j .first-is, ← j .second-is)
+    (join-wrote seriesBytes (firstOf c) (secondOf c) x (lentToJoin c) (leftByJoin c) (j .bytes) (sym (c .kept .0) ∙ ap written (j .answer-is)) (c .kept .1) (j .record-is))
 
 pub parallel-wrote : (y z x : List ℕ) → Joined parallel-reads.Learnt y z x → (x ≡ parallelBytes y z) × Joinable y z
 parallel-wrote y z x j =
-    let a = j .call .args in
-    rw (← j .left-is, ← j .right-is)
-    (join-wrote parallelBytes (a .0 .now) (a .1 .0 .now) x (a .1 .1 .0 .now) (j .call .exit .1 .1 .0 .now) (j .bytes) (sym (j .call .kept .0) ∙ ap written (j .answer-is)) (j .call .kept .1) (j .record-is))
+    let c = j .call in
+    rw (← j .first-is, ← j .second-is)
+    (join-wrote parallelBytes (firstOf c) (secondOf c) x (lentToJoin c) (leftByJoin c) (j .bytes) (sym (c .kept .0) ∙ ap written (j .answer-is)) (c .kept .1) (j .record-is))
 
-pub series-kept : (c : JoinCall series-reads.Learnt) (n : ℕ) → written (c .result) ≡ refused n → c .exit .1 .1 .0 .now ≡ c .args .1 .1 .0 .now
-series-kept c n e = join-kept seriesBytes (c .args .0 .now) (c .args .1 .0 .now) (c .args .1 .1 .0 .now) (c .exit .1 .1 .0 .now) n (sym (c .kept .0) ∙ e) (c .kept .1)
+pub series-kept : (c : JoinCall series-reads.Learnt) (n : ℕ) → written (c .result) ≡ refused n → leftByJoin c ≡ lentToJoin c
+series-kept c n e = join-kept seriesBytes (firstOf c) (secondOf c) (lentToJoin c) (leftByJoin c) n (sym (c .kept .0) ∙ e) (c .kept .1)
 
-pub parallel-kept : (c : JoinCall parallel-reads.Learnt) (n : ℕ) → written (c .result) ≡ refused n → c .exit .1 .1 .0 .now ≡ c .args .1 .1 .0 .now
-parallel-kept c n e = join-kept parallelBytes (c .args .0 .now) (c .args .1 .0 .now) (c .args .1 .1 .0 .now) (c .exit .1 .1 .0 .now) n (sym (c .kept .0) ∙ e) (c .kept .1)
+pub parallel-kept : (c : JoinCall parallel-reads.Learnt) (n : ℕ) → written (c .result) ≡ refused n → leftByJoin c ≡ lentToJoin c
+parallel-kept c n e = join-kept parallelBytes (firstOf c) (secondOf c) (lentToJoin c) (leftByJoin c) n (sym (c .kept .0) ∙ e) (c .kept .1)

@@ -25,6 +25,19 @@ pub record Call (n : ℕ) (ps : List (PK n)) (r : RK n) (promise : Out n ps r) :
 abbrev pub SearchCall : Type 0
 SearchCall = Call 2 search-kinds.ps search-kinds.r search-reads.Learnt
 
+-- its file, its round number, and its output slice as it was lent and as it was left
+abbrev pub fileOf : SearchCall → List ℕ
+fileOf c = c .args .0 .now
+
+abbrev pub roundOf : SearchCall → ℕ
+roundOf c = c .args .1 .0
+
+abbrev pub lentTo : SearchCall → List ℕ
+lentTo c = c .args .1 .1 .0 .now
+
+abbrev pub leftBy : SearchCall → List ℕ
+leftBy c = c .exit .1 .1 .0 .now
+
 -- series and parallel have parameters of the same kinds
 abbrev pub JoinPromise : Type 1
 JoinPromise = Out 3 join-kinds.ps join-kinds.r
@@ -32,23 +45,37 @@ JoinPromise = Out 3 join-kinds.ps join-kinds.r
 abbrev pub JoinCall : JoinPromise → Type 0
 JoinCall promise = Call 3 join-kinds.ps join-kinds.r promise
 
+module _ {promise : JoinPromise} where
+  -- its two records, and its output slice as it was lent and as it was left
+  abbrev pub firstOf : JoinCall promise → List ℕ
+  firstOf c = c .args .0 .now
+
+  abbrev pub secondOf : JoinCall promise → List ℕ
+  secondOf c = c .args .1 .0 .now
+
+  abbrev pub lentToJoin : JoinCall promise → List ℕ
+  lentToJoin c = c .args .1 .1 .0 .now
+
+  abbrev pub leftByJoin : JoinCall promise → List ℕ
+  leftByJoin c = c .exit .1 .1 .0 .now
+
 -- THE SEARCH of round r of file f succeeded, and hands on x: what the output slice, which held anything before, begins with
 pub record Searched (f : List ℕ) (r : ℕ) (x : List ℕ) : Type 0 where
   pub call : SearchCall
   pub bytes : ℕ
-  pub file-is : call .args .0 .now ≡ f
-  pub round-is : call .args .1 .0 ≡ r
+  pub file-is : fileOf call ≡ f
+  pub round-is : roundOf call ≡ r
   pub answer-is : call .result ≡ written-as.Bytes bytes
-  pub record-is : x ≡ take bytes (call .exit .1 .1 .0 .now)
+  pub record-is : x ≡ take bytes (leftBy call)
 
 -- SERIES OR PARALLEL, by its promise, of the records y and z succeeded, and hands on x
 pub record Joined (promise : JoinPromise) (y z x : List ℕ) : Type 0 where
   pub call : JoinCall promise
   pub bytes : ℕ
-  pub left-is : call .args .0 .now ≡ y
-  pub right-is : call .args .1 .0 .now ≡ z
+  pub first-is : firstOf call ≡ y
+  pub second-is : secondOf call ≡ z
   pub answer-is : call .result ≡ written-as.Bytes bytes
-  pub record-is : x ≡ take bytes (call .exit .1 .1 .0 .now)
+  pub record-is : x ≡ take bytes (leftByJoin call)
 
 -- A PLAN BUILT from its parts up, every call successful; x is its record
 abbrev pub Built : Plan → List ℕ → Type 0

@@ -16,7 +16,7 @@ use Rattle.parts.specs.Study.{Arc}
 use Rattle.study.specs.File.{studyOf}
 use Rattle.search.specs.Claims.{StudyPath, pathPair}
 use Rattle.plan.specs.Plan.{Plan, searched, series, parallel, PlanHolds, PlanSized}
-use Rattle.plan.specs.Calls.{SearchCall, JoinCall, Built}
+use Rattle.plan.specs.Calls.{SearchCall, lentTo, leftBy, JoinCall, lentToJoin, leftByJoin, Built}
 
 pub record Demand : Type 0 where
   -- what a plan's calls leave is a front record
@@ -34,9 +34,9 @@ pub record Demand : Type 0 where
   -- the class sizes agree wherever each call succeeds
   pub sized : (p : Plan) (x : List ℕ) → Built p x → PlanSized p (size1 x) (size2 x)
   -- a refused call in between changes nothing
-  pub search-refused : (c : SearchCall) (n : ℕ) → written (c .result) ≡ refused n → c .exit .1 .1 .0 .now ≡ c .args .1 .1 .0 .now
-  pub series-refused : (c : JoinCall series-reads.Learnt) (n : ℕ) → written (c .result) ≡ refused n → c .exit .1 .1 .0 .now ≡ c .args .1 .1 .0 .now
-  pub parallel-refused : (c : JoinCall parallel-reads.Learnt) (n : ℕ) → written (c .result) ≡ refused n → c .exit .1 .1 .0 .now ≡ c .args .1 .1 .0 .now
+  pub search-refused : (c : SearchCall) (n : ℕ) → written (c .result) ≡ refused n → leftBy c ≡ lentTo c
+  pub series-refused : (c : JoinCall series-reads.Learnt) (n : ℕ) → written (c .result) ≡ refused n → leftByJoin c ≡ lentToJoin c
+  pub parallel-refused : (c : JoinCall parallel-reads.Learnt) (n : ℕ) → written (c .result) ≡ refused n → leftByJoin c ≡ lentToJoin c
 
 -- two plans have the same front, however they were built
 abbrev pub SameFront : Plan → Plan → Type 0
