@@ -10,10 +10,15 @@ use Rattle.answer.specs.declared.Written.{Written}
 use Rattle.answer.specs.declared.Done.{Done}
 use Rattle.answer.specs.declared.Header.{Header}
 use Rattle.answer.specs.declared.Opened.{Opened}
+use Rattle.answer.specs.declared.Aged.{Aged}
+use Rattle.answer.specs.declared.Rate.{Rate}
+use Rattle.answer.specs.declared.Rated.{Rated}
 use Rattle.answer.specs.declared.Refusal.the-variants as refusal
 use Rattle.answer.specs.declared.Written.the-variants as written-as
 use Rattle.answer.specs.declared.Done.the-variants as done-as
 use Rattle.answer.specs.declared.Opened.the-variants as opened-as
+use Rattle.answer.specs.declared.Aged.the-variants as aged-as
+use Rattle.answer.specs.declared.Rated.the-variants as rated-as
 
 -- a success and its values, or a refusal and its number
 pub data Outcome : Type 0 where
@@ -71,6 +76,16 @@ headerValues h = h .nodes ∷ h .arcs ∷ h .rounds ∷ h .source ∷ h .target 
 abbrev pub opened : Opened → Outcome
 opened (opened-as.Study h) = success (headerValues h)
 opened (opened-as.Refused r) = refused (numberOf r)
+
+-- "ageing the chance"
+abbrev pub aged : Aged → Outcome
+aged (aged-as.Chance p) = success (p ∷ [])
+aged (aged-as.Refused r) = refused (numberOf r)
+
+-- reliability: S, M and R
+abbrev pub rated : Rated → Outcome
+rated (rated-as.Found k) = success (k .sum ∷ k .rounds ∷ k .rate ∷ [])
+rated (rated-as.Refused r) = refused (numberOf r)
 
 -- ---- deliver: bytes into a slice, or 15
 abbrev pub deliverAnswer : List ℕ → ℕ → Outcome

@@ -76,6 +76,25 @@ pub enum Opened {
     Refused(Refusal),
 }
 
+// The answer of ageing: the chance.
+pub enum Aged {
+    Chance(u32),
+    Refused(Refusal),
+}
+
+// What reliability finds: document 01's S, M, R.
+pub struct Rate {
+    pub sum: u64,
+    pub rounds: u64,
+    pub rate: u64,
+}
+
+// The answer of reliability.
+pub enum Rated {
+    Found(Rate),
+    Refused(Refusal),
+}
+
 // Document 01's number of a refusal.
 pub fn number(refusal: Refusal) -> u32
     ensures { λ r. ⌜ r ≡ numberOf refusal ⌝ }

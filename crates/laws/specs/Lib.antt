@@ -4,3 +4,4 @@ pub mod Pairwise
 pub mod First
 pub mod Parts
 pub mod Sums
+pub mod Every
