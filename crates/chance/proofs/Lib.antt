@@ -1,0 +1,3 @@
+pub mod Weights
+pub mod Classes
+pub mod Bounds

@@ -1,0 +1,1 @@
+// Weights and the survival signature formula: definitions and theorems only (specs/, proofs/).
