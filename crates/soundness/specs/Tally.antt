@@ -1,0 +1,78 @@
+-- A tally (document 01, "Tally"): words n1, n2, M, and then the cells by l1, and within it l2.
+use mathlib.Core.Bool.{Bool, not, _&&_, _||_}
+use mathlib.Core.List.{List, [], _∷_}
+use Prim.Native.Nat.{ℕ, _+_, _*_, _≤_}
+use lib.Dec.{leb, ltb}
+use lib.ListN.{length, getD}
+use Rattle.laws.specs.Every.{every}
+use Rattle.answer.specs.Outcome.{Outcome, outcome}
+use Rattle.chance.specs.Chance.{Grows}
+
+-- how many words stand in front of the cells
+abbrev pub head : ℕ
+head = 3
+
+-- n1, n2 and M
+abbrev pub size1 : List ℕ → ℕ
+size1 t = getD t 0 0
+
+abbrev pub size2 : List ℕ → ℕ
+size2 t = getD t 1 0
+
+abbrev pub rounds : List ℕ → ℕ
+rounds t = getD t 2 0
+
+-- the words of a row of cells, and of a whole tally
+abbrev pub width : ℕ → ℕ
+width n2 = n2 + 1
+
+abbrev pub words : ℕ → ℕ → ℕ
+words n1 n2 = head + (n1 + 1) * width n2
+
+abbrev pub cell : List ℕ → ℕ → ℕ → ℕ
+cell t l1 l2 = getD t (head + (l1 * width (size2 t) + l2)) 0
+
+-- ---- NUMBERS 21 AND 22
+-- "tally slice under 3 words, or sizes at most 64 and cells don't fit"
+abbrev pub noRoom : List ℕ → Bool
+noRoom t = ltb (length t) head || (leb (size1 t) 64 && leb (size2 t) 64 && ltb (length t) (words (size1 t) (size2 t)))
+
+-- a cell is not above M, and not above the next in l1 and in l2
+abbrev pub fair : List ℕ → ℕ → ℕ → Bool
+fair t l1 l2 =
+    leb (cell t l1 l2) (rounds t)
+    && (leb (size1 t) l1 || leb (cell t l1 l2) (cell t (l1 + 1) l2))
+    && (leb (size2 t) l2 || leb (cell t l1 l2) (cell t l1 (l2 + 1)))
+
+-- "sound when n1 and n2 are at most 64, M at most 100,000, no cell is above M, and no cell falls as l1 or l2 grows"
+abbrev pub isSound : List ℕ → Bool
+isSound t = leb (size1 t) 64 && leb (size2 t) 64 && leb (rounds t) 100000 && every (size1 t + 1) (λ l1. every (size2 t + 1) (λ l2. fair t l1 l2))
+
+-- what the test says
+pub record Sound (t : List ℕ) : Type 0 where
+  -- n1 and n2 are at most 64, M at most 100,000
+  pub small1 : size1 t ≤ 64
+  pub small2 : size2 t ≤ 64
+  pub few : rounds t ≤ 100000
+  -- no cell is above M, and none falls as l1 or l2 grows
+  pub grows : Grows (size1 t) (size2 t) (rounds t) (cell t)
+
+-- ---- A TALLY'S STATE (21, 22)
+abbrev pub stateTests : List ℕ → List (ℕ × Bool)
+stateTests t = (21, noRoom t) ∷ (22, not (isSound t)) ∷ []
+
+abbrev pub stateAnswer : List ℕ → Outcome
+stateAnswer t = outcome (stateTests t) (0 ∷ [])
+
+-- ---- the test as the code has it, over the cells alone
+-- each of `count` cells from `at` on is at most the one `step` places later
+abbrev pub risesBy : List ℕ → ℕ → ℕ → ℕ → Bool
+risesBy cells at step count = every count (λ i. leb (getD cells (at + i) 0) (getD cells (at + i + step) 0))
+
+-- in each of n rows a cell is at most the next
+abbrev pub rowsRise : List ℕ → ℕ → ℕ → Bool
+rowsRise cells n2 n = every n (λ l1. risesBy cells (l1 * width n2) 1 n2)
+
+-- the last cell is at most m, and no cell falls from row to row or within its row
+abbrev pub isFair : List ℕ → ℕ → ℕ → ℕ → Bool
+isFair cells n1 n2 m = leb (getD cells (n1 * width n2 + n2) 0) m && (risesBy cells 0 (width n2) (n1 * width n2) && rowsRise cells n2 (n1 + 1))

@@ -1,0 +1,82 @@
+// A tally's words, and whether it is sound.
+use answer::Done;
+use answer::Refusal;
+ghost use mathlib.Core.Path.{_≡_};
+ghost use Prim.Native.Nat.{_+_, _*_, _≤_, _<_};
+ghost use lib.ListN.{length};
+ghost use Rattle.answer.specs.Outcome.{done};
+ghost use Rattle.soundness.specs.Tally.{risesBy, rowsRise, isFair, stateAnswer};
+
+// The words in front of the cells: n1, n2, M.
+pub const HEAD: usize = 3;
+
+// A word of a tally as a count or a place.
+pub fn wide(x: u32) -> usize
+    ensures { λ r. ⌜ (r ≡ x) × (r < 4294967296) ⌝ }
+{
+    x as usize
+}
+
+// Whether each of `count` cells from a place on is at most the one `step` places later.
+fn rises(cells: &[u32], at: usize, count: usize, step: usize) -> bool
+    requires { ⌜ at + count + step ≤ length (now cells) ⌝ }
+    ensures { λ r. ⌜ r ≡ risesBy (now (cells .entry)) at step count ⌝ }
+{
+    let mut all = true;
+    let mut i = 0;
+    while i < count {
+        all = all & (cells[at + i] <= cells[at + i + step]);
+        i += 1;
+    }
+    all
+}
+
+// Whether each cell is at most the next in its row.
+fn rows_rise(cells: &[u32], n1: usize, n2: usize) -> bool
+    requires { ⌜ (n1 ≤ 64) × (n2 ≤ 64) × ((n1 + 1) * (n2 + 1) ≤ length (now cells)) ⌝ }
+    ensures { λ r. ⌜ r ≡ rowsRise (now (cells .entry)) n2 (n1 + 1) ⌝ }
+{
+    let mut all = true;
+    let mut at = 0;
+    let mut l1 = 0;
+    while l1 <= n1 {
+        all = all & rises(cells, at, n2, 1);
+        at += n2 + 1;
+        l1 += 1;
+    }
+    all
+}
+
+// Whether the last cell is at most m, and no cell falls as l1 or l2 grows.
+fn is_fair(cells: &[u32], n1: usize, n2: usize, m: u32) -> bool
+    requires { ⌜ (n1 ≤ 64) × (n2 ≤ 64) × ((n1 + 1) * (n2 + 1) ≤ length (now cells)) ⌝ }
+    ensures { λ r. ⌜ r ≡ isFair (now (cells .entry)) n1 n2 m ⌝ }
+{
+    let w = n2 + 1;
+    let k = n1 * w;
+    (cells[k + n2] <= m) & (rises(cells, 0, k, w) & rows_rise(cells, n1, n2))
+}
+
+// Numbers 21 and 22: whether the slice has room for its cells, and the tally is sound.
+pub fn check(tally: &[u32]) -> Done
+    ensures { λ r. ⌜ done r ≡ stateAnswer (now (tally .entry)) ⌝ }
+{
+    if tally.len() < HEAD {
+        return Done::Refused(Refusal::TallyShort);
+    }
+    let n1 = wide(tally[0]);
+    let n2 = wide(tally[1]);
+    if (n1 > 64) | (n2 > 64) {
+        return Done::Refused(Refusal::TallyUnsound);
+    }
+    if tally.len() < HEAD + (n1 + 1) * (n2 + 1) {
+        return Done::Refused(Refusal::TallyShort);
+    }
+    if tally[2] > 100000 {
+        return Done::Refused(Refusal::TallyUnsound);
+    }
+    if !is_fair(&tally[HEAD..], n1, n2, tally[2]) {
+        return Done::Refused(Refusal::TallyUnsound);
+    }
+    Done::Done
+}

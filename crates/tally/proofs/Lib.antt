@@ -1,0 +1,6 @@
+pub mod Tables
+pub mod News
+pub mod Peaks
+pub mod Raises
+pub mod Adds
+pub mod Runs

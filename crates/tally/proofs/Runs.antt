@@ -1,0 +1,167 @@
+-- Lists of adds, refused ones among them, by induction.
+use mathlib.Core.Path.{_≡_, refl, sym, ap, subst, _∙_}
+use mathlib.Core.Bool.{Bool, true, false, cond, _||_}
+use mathlib.Core.List.{List, [], _∷_, _++_, append-nil, append-assoc}
+use Prim.Native.Nat.{ℕ, zero, suc, _+_, _-_, _*_, _≤_, _<_}
+use native.Mathlib.Nat.{suc-mul, zero-mul}
+use native.Mathlib.Omega.{arith}
+use lib.Dec.{T, eqb, ltb}
+use lib.ListN.{length, getD, drop, length-append}
+use lib.Seq.{append-snoc, getD-append-add, length-front, length-take-le, drop-at}
+use borrow.Author.Tests.{ltb-false, eqb-false}
+use Rattle.laws.specs.Members.{any-out, any-in, here, there}
+use Rattle.answer.specs.Outcome.{Outcome, success, refused, filled}
+use Rattle.answer.proofs.Outcomes.{outcome-tests, outcome-values}
+use Rattle.front.specs.Pair.{holdsAt}
+use Rattle.front.proofs.Pairs.{holds-is}
+use Rattle.record.specs.Record.{listed, recordHolds}
+use Rattle.chance.specs.Chance.{Grows}
+use Rattle.soundness.specs.Tally.{head, size1, size2, rounds, width, words, cell}
+use Rattle.tally.specs.Cells.{line, table, tallyOf}
+use Rattle.tally.specs.Calls.{newTests, newAnswer, newOut, addTests, addAnswer, addOut, added, held}
+use Rattle.tally.specs.Adds.{succeeds, afterAdds, accepted, holding, Tallies}
+use Rattle.soundness.proofs.States.{neither}
+use Rattle.tally.proofs.Tables.{line-length, table-length}
+
+-- ---- reading a table
+line-at : (n : ℕ) (f : ℕ → ℕ) (i : ℕ) (l : List ℕ) → i < n → getD (line n f ++ l) i 0 ≡ f i
+line-at zero f i l h = absurd (omega arith)
+line-at (suc n) f zero l h = refl
+line-at (suc n) f (suc i) l h = line-at n (λ k. f (suc k)) i l (omega arith)
+
+table-at : (n m : ℕ) (c : ℕ → ℕ → ℕ) (i j : ℕ) (l : List ℕ) → i < n → j < m → getD (table n m c ++ l) (i * m + j) 0 ≡ c i j
+table-at zero m c i j l h k = absurd (omega arith)
+table-at (suc n) m c zero j l h k =
+    let e : 0 * m + j ≡ j = omega (arith, zero-mul m) in
+    ap (λ x. getD x (0 * m + j) 0) (append-assoc (line m (c 0)) (table n m (λ x. c (suc x))) l) ∙ ap (λ x. getD (line m (c 0) ++ (table n m (λ x. c (suc x)) ++ l)) x 0) e ∙ line-at m (c 0) j (table n m (λ x. c (suc x)) ++ l) k
+table-at (suc n) m c (suc i) j l h k =
+    let e : suc i * m + j ≡ length (line m (c 0)) + (i * m + j) = omega (arith, suc-mul i m, line-length m (c 0)) in
+    ap (λ x. getD x (suc i * m + j) 0) (append-assoc (line m (c 0)) (table n m (λ x. c (suc x))) l) ∙ ap (λ x. getD (line m (c 0) ++ (table n m (λ x. c (suc x)) ++ l)) x 0) e
+    ∙ getD-append-add (line m (c 0)) (table n m (λ x. c (suc x)) ++ l) (i * m + j) 0 ∙ table-at n m (λ x. c (suc x)) i j l (omega arith) k
+
+pub tally-cell : (n1 n2 m : ℕ) (c : ℕ → ℕ → ℕ) (l : List ℕ) (l1 l2 : ℕ) → l1 ≤ n1 → l2 ≤ n2 → cell (tallyOf n1 n2 m c ++ l) l1 l2 ≡ c l1 l2
+tally-cell n1 n2 m c l l1 l2 h k =
+    let e : head + (l1 * width n2 + l2) ≡ suc (suc (suc (l1 * width n2 + l2))) = omega arith in
+    ap (λ x. getD (tallyOf n1 n2 m c ++ l) x 0) e ∙ table-at (n1 + 1) (width n2) c l1 l2 l (omega arith) (omega arith)
+
+-- ---- how many hold
+fewer : (r : List ℕ) (a c b d : ℕ) → a ≤ c → b ≤ d → T (recordHolds r c d) → T (recordHolds r a b)
+fewer r a c b d h k t =
+    let x = any-out (λ p. holdsAt p c d) (listed r) t in
+    let y = holds-is (x .0) c d .0 (x .2) in
+    any-in (λ p. holdsAt p a b) (x .1) (holds-is (x .0) a b .1 (omega (arith, y), omega (arith, y)))
+
+one-most : (x : Bool) → cond x 1 0 ≤ 1
+one-most true = omega arith
+one-most false = omega arith
+
+one-order : (x y : Bool) → (T x → T y) → cond x 1 0 ≤ cond y 1 0
+one-order true true h = omega arith
+one-order true false h = absurd (h tt)
+one-order false y h = omega arith
+
+holding-most : (rs : List (List ℕ)) (a b : ℕ) → holding rs a b ≤ length rs
+holding-most [] a b = omega arith
+holding-most (r ∷ rs) a b = omega (arith, one-most (recordHolds r a b), holding-most rs a b)
+
+holding-order : (rs : List (List ℕ)) (a c b d : ℕ) → a ≤ c → b ≤ d → holding rs c d ≤ holding rs a b
+holding-order [] a c b d h k = omega arith
+holding-order (r ∷ rs) a c b d h k = omega (arith, one-order (recordHolds r c d) (recordHolds r a b) (fewer r a c b d h k), holding-order rs a c b d h k)
+
+pub holding-snoc : (rs : List (List ℕ)) (r : List ℕ) (a b : ℕ) → holding (rs ++ (r ∷ [])) a b ≡ holding rs a b + cond (recordHolds r a b) 1 0
+holding-snoc [] r a b = omega arith
+holding-snoc (q ∷ rs) r a b = omega (arith, holding-snoc rs r a b)
+
+-- counts of fronts grow with the working nodes
+pub holding-grows : (rs : List (List ℕ)) (n1 n2 : ℕ) → Grows n1 n2 (length rs) (λ l1 l2. holding rs (n1 - l1) (n2 - l2))
+holding-grows rs n1 n2 =
+    record {
+      below = λ l1 l2 h k. holding-most rs (n1 - l1) (n2 - l2);
+      first = λ l1 l2 h k. holding-order rs (n1 - suc l1) (n1 - l1) (n2 - l2) (n2 - l2) (omega arith) (omega arith);
+      second = λ l1 l2 h k. holding-order rs (n1 - l1) (n1 - l1) (n2 - suc l2) (n2 - l2) (omega arith) (omega arith);
+    }
+
+-- ---- a tally whose cells count
+module _ (t₀ old : List ℕ) (n1 n2 : ℕ) (rs : List (List ℕ)) (c : ℕ → ℕ → ℕ) where
+  abbrev front : List ℕ
+  front = tallyOf n1 n2 (length rs) c
+
+  abbrev whole : List ℕ
+  whole = front ++ drop (length front) old
+
+  front-long : length front ≡ words n1 n2
+  front-long = omega (arith, table-length (n1 + 1) (width n2) c)
+
+  pub tallied : n1 ≤ 64 → n2 ≤ 64 → length rs ≤ 100000 → words n1 n2 ≤ length t₀ → length old ≡ length t₀ → drop (words n1 n2) old ≡ drop (words n1 n2) t₀
+      → ((l1 l2 : ℕ) → l1 ≤ n1 → l2 ≤ n2 → c l1 l2 ≡ holding rs (n1 - l1) (n2 - l2)) → Tallies t₀ whole n1 n2 rs
+  tallied h1 h2 h3 room long past counts =
+      record {
+        one = refl;
+        two = refl;
+        many = refl;
+        cells = at;
+        sound = record {
+          small1 = h1;
+          small2 = h2;
+          few = h3;
+          grows = record {
+            below = λ l1 l2 h k. rw (at l1 l2 h k) (g .below l1 l2 h k);
+            first = λ l1 l2 h k. rw (at l1 l2 (omega arith) k, at (suc l1) l2 (omega arith) k) (g .first l1 l2 h k);
+            second = λ l1 l2 h k. rw (at l1 l2 h (omega arith), at l1 (suc l2) h (omega arith)) (g .second l1 l2 h k);
+          };
+        };
+        past = drop-at front (drop (length front) old) (words n1 n2) front-long ∙ ap (λ k. drop k old) front-long ∙ past;
+        long = length-front old front (length front) (sym (length-take-le (length front) old (omega (arith, front-long)))) ∙ long;
+        room = room;
+      }
+    where
+      g : Grows n1 n2 (length rs) (λ l1 l2. holding rs (n1 - l1) (n2 - l2))
+      g = holding-grows rs n1 n2
+
+      at : (l1 l2 : ℕ) → l1 ≤ n1 → l2 ≤ n2 → cell whole l1 l2 ≡ holding rs (n1 - l1) (n2 - l2)
+      at l1 l2 h k = tally-cell n1 n2 (length rs) c (drop (length front) old) l1 l2 h k ∙ counts l1 l2 h k
+
+-- ---- new, and add
+pub new-tallies : (n1 n2 : ℕ) (t₀ : List ℕ) → newAnswer n1 n2 (length t₀) ≡ success (0 ∷ []) → Tallies t₀ (newOut n1 n2 t₀) n1 n2 []
+new-tallies n1 n2 t₀ e =
+    let a = outcome-tests (newTests n1 n2 (length t₀)) (0 ∷ []) e in
+    let s = neither n1 n2 (a (6, ltb 64 n1 || ltb 64 n2) here) in
+    let room = ltb-false (length t₀) (words n1 n2) (a (21, ltb (length t₀) (words n1 n2)) (there here)) in
+    rw e (tallied t₀ t₀ n1 n2 [] (λ l1 l2. 0) (s .0) (s .1) (omega arith) room refl refl (λ l1 l2 h k. refl))
+
+-- a refused add leaves the tally, another raises it
+pub add-tallies : (r : List ℕ) {t₀ t : List ℕ} {n1 n2 : ℕ} {rs : List (List ℕ)} → Tallies t₀ t n1 n2 rs
+    → Tallies t₀ (addOut r t) n1 n2 (rs ++ cond (succeeds (addAnswer r t)) (r ∷ []) [])
+add-tallies r {t₀} {t} {n1} {n2} {rs} s = go (addAnswer r t) refl
+  where
+    more : rounds t + 1 ≡ length (rs ++ (r ∷ []))
+    more = omega (arith, s .many, length-append rs (r ∷ []))
+
+    shape : (a b m : ℕ) → size1 t ≡ a → size2 t ≡ b → rounds t + 1 ≡ m → added r t ≡ tallyOf a b m (λ l1 l2. cell t l1 l2 + held r a b l1 l2)
+    shape a b m e f g = rw (e, f, g)
+
+    -- not full
+    free : (v : List ℕ) → addAnswer r t ≡ success v → (rounds t ≡ 100000 → ⊥)
+    free v e =
+        let z = outcome-values (addTests r t) (0 ∷ []) v e in
+        eqb-false (rounds t) 100000 (outcome-tests (addTests r t) (0 ∷ []) (e ∙ ap success (sym z)) (24, eqb (rounds t) 100000) (there (there (there (there here)))))
+
+    go : (a : Outcome) → addAnswer r t ≡ a → Tallies t₀ (filled a (added r t) t) n1 n2 (rs ++ cond (succeeds a) (r ∷ []) [])
+    go (refused n) e = rw (append-nil rs) s
+    go (success v) e =
+        subst (λ l. Tallies t₀ (l ++ drop (length l) t) n1 n2 (rs ++ (r ∷ []))) (sym (shape n1 n2 (length (rs ++ (r ∷ []))) (s .one) (s .two) more))
+        (tallied t₀ t n1 n2 (rs ++ (r ∷ [])) (λ l1 l2. cell t l1 l2 + held r n1 n2 l1 l2) (omega (arith, s .sound .small1, s .one)) (omega (arith, s .sound .small2, s .two))
+        (omega (arith, more, s .sound .few, free v e)) (s .room) (s .long) (s .past) (λ l1 l2 h k. omega (arith, s .cells l1 l2 h k, holding-snoc rs r (n1 - l1) (n2 - l2))))
+
+-- ---- EVERY LIST OF ADDS after a new tally
+adds-from : {t₀ t : List ℕ} {n1 n2 : ℕ} {rs : List (List ℕ)} → Tallies t₀ t n1 n2 rs → (qs : List (List ℕ)) → Tallies t₀ (afterAdds t qs) n1 n2 (rs ++ accepted t qs)
+adds-from {rs = rs} s [] = rw (append-nil rs) s
+adds-from {t₀} {t} {n1} {n2} {rs} s (q ∷ qs) =
+    subst (Tallies t₀ (afterAdds (addOut q t) qs) n1 n2) (moved (succeeds (addAnswer q t)) (accepted (addOut q t) qs)) (adds-from (add-tallies q s) qs)
+  where
+    moved : (b : Bool) (l : List (List ℕ)) → rs ++ cond b (q ∷ []) [] ++ l ≡ rs ++ cond b (q ∷ l) l
+    moved true l = append-snoc rs q l
+    moved false l = ap (λ x. x ++ l) (append-nil rs)
+
+pub adds-tally : (n1 n2 : ℕ) (t₀ : List ℕ) → newAnswer n1 n2 (length t₀) ≡ success (0 ∷ []) → (qs : List (List ℕ)) → let t = newOut n1 n2 t₀ in Tallies t₀ (afterAdds t qs) n1 n2 (accepted t qs)
+adds-tally n1 n2 t₀ e qs = adds-from (new-tallies n1 n2 t₀ e) qs

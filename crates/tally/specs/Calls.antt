@@ -1,0 +1,59 @@
+-- What new (01: fresh) and add answer and leave.
+use mathlib.Core.Path.{_≡_}
+use mathlib.Core.Bool.{Bool, not, cond, _&&_, _||_}
+use mathlib.Core.List.{List, [], _∷_, _++_}
+use Prim.Native.Nat.{ℕ, _+_, _-_, _*_, _≤_, _<_}
+use lib.Dec.{T, eqb, ltb}
+use lib.ListN.{length, getD, drop}
+use Rattle.answer.specs.Outcome.{Outcome, outcome, filled}
+use Rattle.record.specs.Record.{isRecord, recordHolds, size1 as recordSize1, size2 as recordSize2}
+use Rattle.soundness.specs.Tally.{size1, size2, rounds, width, words, cell, noRoom, isSound}
+use Rattle.tally.specs.Cells.{table, tallyOf}
+
+-- ---- NEW (6, 21)
+abbrev pub newTests : ℕ → ℕ → ℕ → List (ℕ × Bool)
+newTests n1 n2 room = (6, ltb 64 n1 || ltb 64 n2) ∷ (21, ltb room (words n1 n2)) ∷ []
+
+abbrev pub newAnswer : ℕ → ℕ → ℕ → Outcome
+newAnswer n1 n2 room = outcome (newTests n1 n2 room) (0 ∷ [])
+
+-- no front was added: M and every cell are 0
+abbrev pub newOut : ℕ → ℕ → List ℕ → List ℕ
+newOut n1 n2 t = filled (newAnswer n1 n2 (length t)) (tallyOf n1 n2 0 (λ l1 l2. 0)) t
+
+-- ---- ADD (12, 21, 22, 23, 24)
+abbrev pub sameSizes : List ℕ → List ℕ → Bool
+sameSizes r t = eqb (recordSize1 r) (size1 t) && eqb (recordSize2 r) (size2 t)
+
+abbrev pub addTests : List ℕ → List ℕ → List (ℕ × Bool)
+addTests r t = (12, not (isRecord r)) ∷ (21, noRoom t) ∷ (22, not (isSound t)) ∷ (23, not (sameSizes r t)) ∷ (24, eqb (rounds t) 100000) ∷ []
+
+abbrev pub addAnswer : List ℕ → List ℕ → Outcome
+addAnswer r t = outcome (addTests r t) (0 ∷ [])
+
+-- 1 where the record holds with the last l1 and l2 working
+abbrev pub held : List ℕ → ℕ → ℕ → ℕ → ℕ → ℕ
+held r n1 n2 l1 l2 = cond (recordHolds r (n1 - l1) (n2 - l2)) 1 0
+
+-- the cells alone, each raised by 1 where the record holds
+abbrev pub raisedCells : List ℕ → ℕ → ℕ → List ℕ → List ℕ
+raisedCells r n1 n2 cells = table (n1 + 1) (width n2) (λ l1 l2. getD cells (l1 * width n2 + l2) 0 + held r n1 n2 l1 l2) ++ drop ((n1 + 1) * width n2) cells
+
+-- a record whose cells may be raised
+pub record Raisable (cells r : List ℕ) (n1 n2 : ℕ) : Type 0 where
+  -- a front record
+  pub is : T (isRecord r)
+  -- of these class sizes
+  pub one : recordSize1 r ≡ n1
+  pub two : recordSize2 r ≡ n2
+  -- room for every cell
+  pub room : (n1 + 1) * width n2 ≤ length cells
+  -- no cell above the largest M
+  pub below : (i : ℕ) → i < (n1 + 1) * width n2 → getD cells i 0 ≤ 100000
+
+-- M and each cell where the record holds raised by 1
+abbrev pub added : List ℕ → List ℕ → List ℕ
+added r t = tallyOf (size1 t) (size2 t) (rounds t + 1) (λ l1 l2. cell t l1 l2 + held r (size1 t) (size2 t) l1 l2)
+
+abbrev pub addOut : List ℕ → List ℕ → List ℕ
+addOut r t = filled (addAnswer r t) (added r t) t
