@@ -10,6 +10,9 @@ use Rattle.study.specs.Calls.{badOrders, openAnswer, checkAnswer, lookupPart}
 use Rattle.writer.specs.Writer.{Given, given, studyBytes, writeAnswer}
 use Rattle.record.specs.Record.{isRecord, recordHolds}
 use Rattle.search.specs.Search.{searchAnswer, searchOut}
+use Rattle.tally.specs.Calls.{newOut, addOut}
+use Rattle.weights.specs.Calls.{weightsAnswer, weightsOut}
+use Rattle.reliability.specs.Calls.{rateAnswer}
 use Rattle.compose.specs.Compose.{seriesAnswer, seriesOut, parallelAnswer, parallelOut}
 
 -- "Nodes 0 to 5 of classes 0, 0, 1, 1, 2, 2; s 0, t 1; arcs 0 2, 2 4, 4 1, 0 3, 3 1, 0 5, 5 1", with one round
@@ -32,6 +35,10 @@ oneArc = studyBytes (given (0 ∷ 0 ∷ []) (0 ∷ 1 ∷ []) [] 0 1 1)
 -- the ring's record, the record that R3 and R4 join it with, and an empty front
 abbrev pub ring : List ℕ
 ring = 2 ∷ 2 ∷ 3 ∷ 3 ∷ 1 ∷ 2 ∷ 2 ∷ 1 ∷ 3 ∷ []
+
+-- a new tally for the ring, with a word to spare, and R2's record added
+abbrev pub ringTally : List ℕ
+ringTally = addOut ring (newOut 2 2 (9 ∷ 9 ∷ 9 ∷ 9 ∷ 9 ∷ 9 ∷ 9 ∷ 9 ∷ 9 ∷ 9 ∷ 9 ∷ 9 ∷ 7 ∷ []))
 
 abbrev pub other : List ℕ
 other = 2 ∷ 2 ∷ 1 ∷ 2 ∷ 3 ∷ []
@@ -75,6 +82,17 @@ pub record Table : Type 0 where
   -- R5 row with an empty front: empty; side: R2
   pub r5-row : seriesOut ring empty ten ≡ 2 ∷ 2 ∷ 0 ∷ 9 ∷ 9 ∷ 9 ∷ 9 ∷ 9 ∷ 9 ∷ 9 ∷ []
   pub r5-side : parallelOut ring empty ten ≡ 2 ∷ 2 ∷ 3 ∷ 3 ∷ 1 ∷ 2 ∷ 2 ∷ 1 ∷ 3 ∷ 9 ∷ []
+  -- R6 weights, n = 2, p = 333,333: 4,444,449; 4,444,443; 1,111,108
+  pub r6-answer : weightsAnswer 2 333333 4 ≡ success (0 ∷ [])
+  pub r6-out : weightsOut 2 333333 (9 ∷ 9 ∷ 9 ∷ 9 ∷ []) ≡ 4444449 ∷ 4444443 ∷ 1111108 ∷ 9 ∷ []
+  -- R7 both chances 500,000: S = 68,750,000,000,000, M = 1, R = 6,875,000; of R2's record in a new tally
+  pub r7-tally : ringTally ≡ 2 ∷ 2 ∷ 1 ∷ 0 ∷ 0 ∷ 1 ∷ 0 ∷ 1 ∷ 1 ∷ 1 ∷ 1 ∷ 1 ∷ 7 ∷ []
+  pub r7 : rateAnswer ringTally 500000 500000 ≡ success (68750000000000 ∷ 1 ∷ 6875000 ∷ [])
+  -- R11 chance 1,000,000 accepted, 1,000,001 gives 14
+  pub r11-weights : weightsAnswer 2 1000000 3 ≡ success (0 ∷ [])
+  pub r11-weights-14 : weightsAnswer 2 1000001 0 ≡ refused 14
+  pub r11-rate : rateAnswer ringTally 1000000 1000000 ≡ success (100000000000000 ∷ 1 ∷ 10000000 ∷ [])
+  pub r11-rate-14 : rateAnswer [] 0 1000001 ≡ refused 14
   -- R10 no arcs: record 2 2 0
   pub r10 : searchOut noArcs 0 ten ≡ 2 ∷ 2 ∷ 0 ∷ 9 ∷ 9 ∷ 9 ∷ 9 ∷ 9 ∷ 9 ∷ 9 ∷ []
   -- R12 n1 = n2 = 0 and arc 0 1: record 0 0 1 1 1
@@ -118,6 +136,14 @@ table =
       r4-out = refl;
       r5-row = refl;
       r5-side = refl;
+      r6-answer = refl;
+      r6-out = refl;
+      r7-tally = refl;
+      r7 = refl;
+      r11-weights = refl;
+      r11-weights-14 = refl;
+      r11-rate = refl;
+      r11-rate-14 = refl;
       r10 = refl;
       r12 = refl;
       n12 = refl;

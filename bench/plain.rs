@@ -1,0 +1,118 @@
+//! Tallies and reliability in plain Rust, with document 01's tests.
+
+const HEAD: usize = 3;
+
+fn is_record(r: &[u8]) -> bool {
+    if r.len() < 3 || r[0] > 64 || r[1] > 64 || r[2] > r[0].min(r[1]) + 1 || r.len() != 3 + 2 * r[2] as usize {
+        return false;
+    }
+    let (mut p1, mut p2) = (r[0] + 2, 0);
+    for p in r[3..].chunks_exact(2) {
+        if p[0] == 0 || p[0] >= p1 || p[1] <= p2 || p[1] > r[1] + 1 {
+            return false;
+        }
+        (p1, p2) = (p[0], p[1]);
+    }
+    true
+}
+
+/// Cell by cell, left at the first that is above M, the cell below it or its neighbour.
+pub fn by_cells(cells: &[u32], n1: usize, n2: usize, m: u32) -> bool {
+    let w = n2 + 1;
+    for l1 in 0..=n1 {
+        for l2 in 0..=n2 {
+            let i = l1 * w + l2;
+            if cells[i] > m || (l1 < n1 && cells[i] > cells[i + w]) || (l2 < n2 && cells[i] > cells[i + 1]) {
+                return false;
+            }
+        }
+    }
+    true
+}
+
+/// The library's own test: the last cell, and two passes over neighbours that are not left early.
+pub fn by_passes(cells: &[u32], n1: usize, n2: usize, m: u32) -> bool {
+    let w = n2 + 1;
+    let rise = |x: &[u32], y: &[u32]| x.iter().zip(y).fold(true, |all, (a, b)| all & (a <= b));
+    let cells = &cells[..(n1 + 1) * w];
+    (cells[n1 * w + n2] <= m) & rise(&cells[..n1 * w], &cells[w..]) & cells.chunks_exact(w).fold(true, |all, row| all & rise(&row[..n2], &row[1..]))
+}
+
+type Sound = fn(&[u32], usize, usize, u32) -> bool;
+
+fn state(tally: &[u32], sound: Sound) -> u32 {
+    if tally.len() < HEAD {
+        return 21;
+    }
+    let (n1, n2) = (tally[0] as usize, tally[1] as usize);
+    if n1 > 64 || n2 > 64 {
+        return 22;
+    }
+    if tally.len() < HEAD + (n1 + 1) * (n2 + 1) {
+        return 21;
+    }
+    if tally[2] > 100_000 || !sound(&tally[HEAD..], n1, n2, tally[2]) {
+        return 22;
+    }
+    0
+}
+
+#[inline(always)]
+pub fn add(record: &[u8], tally: &mut [u32], sound: Sound) -> u32 {
+    if !is_record(record) {
+        return 12;
+    }
+    let number = state(tally, sound);
+    if number != 0 {
+        return number;
+    }
+    let (n1, n2) = (tally[0] as usize, tally[1] as usize);
+    if (record[0] as usize, record[1] as usize) != (n1, n2) {
+        return 23;
+    }
+    if tally[2] == 100_000 {
+        return 24;
+    }
+    tally[2] += 1;
+    let (w, mut pairs, mut height) = (n2 + 1, record[3..].chunks_exact(2).peekable(), 0);
+    for (l1, row) in tally[HEAD..HEAD + (n1 + 1) * w].chunks_exact_mut(w).enumerate() {
+        while let Some(p) = pairs.next_if(|p| p[0] as usize > n1 - l1) {
+            height = p[1] as usize;
+        }
+        row[w - height..].iter_mut().for_each(|cell| *cell += 1);
+    }
+    0
+}
+
+fn weights(n: usize, p: u32) -> [u32; 65] {
+    let mut out = [0; 65];
+    out[0] = 10_000_000;
+    for i in 0..n {
+        let mut carry = 0;
+        for w in &mut out[..=i] {
+            let sent = (*w as u64 * p as u64 / 1_000_000) as u32;
+            *w = *w - sent + carry;
+            carry = sent;
+        }
+        out[i + 1] = carry;
+    }
+    out
+}
+
+#[inline(always)]
+pub fn reliability(tally: &[u32], p1: u32, p2: u32, sound: Sound) -> Result<[u64; 3], u32> {
+    if p1 > 1_000_000 || p2 > 1_000_000 {
+        return Err(14);
+    }
+    match state(tally, sound) {
+        0 if tally[2] == 0 => return Err(25),
+        0 => {}
+        number => return Err(number),
+    }
+    let (n1, n2) = (tally[0] as usize, tally[1] as usize);
+    let (u, v) = (weights(n1, p1), weights(n2, p2));
+    let rows = tally[HEAD..HEAD + (n1 + 1) * (n2 + 1)].chunks_exact(n2 + 1);
+    let sum = rows.zip(&u).map(|(row, &w)| w as u64 * row.iter().zip(&v).map(|(&c, &x)| c as u64 * x as u64).sum::<u64>()).sum::<u64>();
+    let m = tally[2] as u64;
+    Ok([sum, m, sum / (m * 10_000_000)])
+}

@@ -1,0 +1,521 @@
+// New, add, weights, ageing and reliability on generated tallies, good and damaged, against a plain
+// reading of document 01, counted.
+mod plain;
+
+use answer::Aged;
+use answer::Done;
+use answer::Rate;
+use answer::Rated;
+use libc::STDOUT_FILENO;
+use plain::PAST;
+use plain::put;
+use plain::word;
+use trial::line;
+use trial::pick;
+use trial::poke;
+ghost use Prim.Native.Nat.{_≤_, _<_};
+ghost use lib.ListN.{length};
+
+// ---- counts: 28 for each call; at k the answers of number k, at 26 the wrong ones
+fn tick(counts: &mut [u64], at: u64) {
+    let k = at as usize;
+    if k < counts.len() {
+        counts[k] = counts[k] % 1000000 + 1;
+    }
+}
+
+fn verdict(right: bool) -> u64
+    ensures { λ r. ⌜ r ≤ 27 ⌝ }
+{
+    if right { 27 } else { 26 }
+}
+
+// Counts an answer, and whether it was right.
+fn judge(counts: &mut [u64], base: u64, got: u64, right: bool)
+    requires { ⌜ base ≤ 1000 ⌝ }
+{
+    tick(counts, base + got % 26);
+    tick(counts, base + verdict(right));
+}
+
+fn shown(counts: &[u64], k: usize) -> u64 {
+    if k < counts.len() { counts[k] } else { 0 }
+}
+
+fn label(k: usize) {
+    if k == 0 {
+        io::write_all(STDOUT_FILENO, b"  good");
+        return;
+    }
+    io::write_all(STDOUT_FILENO, b"  refused ");
+    io::print_decimal(STDOUT_FILENO, k as u64);
+}
+
+fn show(counts: &[u64], base: usize)
+    requires { ⌜ base ≤ 1000 ⌝ }
+{
+    let mut k: usize = 0;
+    while k < 26 {
+        let n = shown(counts, base + k);
+        if n != 0 {
+            label(k);
+            line(b" ", n);
+        }
+        k += 1;
+    }
+    line(b"  wrong ", shown(counts, base + 26));
+}
+
+// ---- slices of words
+fn copy(from: &[u32], to: &mut [u32]) {
+    let mut i: usize = 0;
+    while i < from.len() {
+        put(to, i, word(from, i));
+        i += 1;
+    }
+}
+
+fn junk(seed: u64, t: &mut [u32]) {
+    let mut i: usize = 0;
+    while i < 4240 {
+        put(t, i, pick(seed, i as u64, 5));
+        i += 1;
+    }
+}
+
+fn number(d: Done) -> u64 {
+    match d {
+        Done::Done => 0,
+        Done::Refused(r) => answer::number(r) as u64,
+    }
+}
+
+// ---- new
+// A tally of zeros, where it is due.
+fn fresh(t: &mut [u32], n1: u64, n2: u64, n: usize, due: bool)
+    requires { ⌜ n ≤ 4300 ⌝ }
+{
+    put(t, if due { 0 } else { PAST }, n1);
+    put(t, if due { 1 } else { PAST }, n2);
+    let mut i: usize = 0;
+    while i <= n {
+        put(t, if due { 2 + i } else { PAST }, 0);
+        i += 1;
+    }
+}
+
+fn cells_of(n1: u64, n2: u64) -> usize
+    ensures { λ r. ⌜ r ≤ 4225 ⌝ }
+{
+    if n1 > 64 {
+        return 0;
+    }
+    if n2 > 64 {
+        return 0;
+    }
+    plain::cells(n1 as usize, n2 as usize)
+}
+
+fn new_number(n: usize, room: usize) -> u64
+    requires { ⌜ n ≤ 4225 ⌝ }
+{
+    if n == 0 {
+        return 6;
+    }
+    if room < 3 + n { 21 } else { 0 }
+}
+
+fn try_new(n1: u64, n2: u64, words: &mut [u32], counts: &mut [u64])
+    requires { ⌜ (n1 ≤ 70) × (n2 ≤ 70) × (length (now words) ≤ 4240) ⌝ }
+{
+    let mut want = [0u32; 4240];
+    copy(words, &mut want);
+    let n = cells_of(n1, n2);
+    let due = new_number(n, words.len());
+    fresh(&mut want, n1, n2, n, due == 0);
+    let got = number(tally::new(n1 as u32, n2 as u32, words));
+    let alike = plain::begins(&want, words);
+    judge(counts, 0, got, (got == due) & alike);
+}
+
+// ---- add
+// Pairs at random, p1 falling and p2 rising; the record's length.
+fn record_of(seed: u64, s: Size, out: &mut [u8]) -> usize
+    requires { ⌜ (s .n1 ≤ 70) × (s .n2 ≤ 70) ⌝ }
+    ensures { λ r. ⌜ r ≤ 60 ⌝ }
+{
+    let mut p1 = s.n1 + 2;
+    let mut p2: u64 = 0;
+    let mut k: usize = 0;
+    let mut i: u64 = 0;
+    while i < 12 {
+        let down = 1 + pick(seed, 100 + i, 9);
+        let q2 = p2 + 1 + pick(seed, 200 + i, 9);
+        i += 1;
+        if p1 <= down {
+            continue;
+        }
+        if q2 > s.n2 + 1 {
+            continue;
+        }
+        p1 -= down;
+        p2 = q2;
+        poke(out, 3 + 2 * k, p1);
+        poke(out, 4 + 2 * k, p2);
+        k += 1;
+    }
+    poke(out, 0, s.n1);
+    poke(out, 1, s.n2);
+    poke(out, 2, k as u64);
+    3 + 2 * k
+}
+
+fn try_add(record: &[u8], words: &mut [u32], counts: &mut [u64])
+    requires { ⌜ length (now words) ≤ 4240 ⌝ }
+{
+    let mut want = [0u32; 4240];
+    copy(words, &mut want);
+    let due = plain::add_number(record, words);
+    plain::add(record, &mut want, due == 0);
+    let got = number(tally::add(record, words));
+    let alike = plain::begins(&want, words);
+    judge(counts, 28, got, (got == due) & alike);
+}
+
+// The sizes of a record: those of the tally, but for two times in ten.
+fn record_sizes(seed: u64, s: Size) -> Size
+    requires { ⌜ (s .n1 ≤ 64) × (s .n2 ≤ 64) ⌝ }
+    ensures { λ r. ⌜ (r .n1 ≤ 65) × (r .n2 ≤ 65) ⌝ }
+{
+    let kind = pick(seed, 7, 10);
+    if kind == 0 {
+        return Size {
+            n1: s.n1 + 1,
+            n2: s.n2,
+        };
+    }
+    if kind == 1 {
+        return Size {
+            n1: s.n1,
+            n2: pick(seed, 8, 65),
+        };
+    }
+    s
+}
+
+// Its length, or one less.
+fn record_end(seed: u64, n: usize) -> usize
+    requires { ⌜ n ≤ 60 ⌝ }
+    ensures { λ r. ⌜ r ≤ 60 ⌝ }
+{
+    if n == 0 {
+        return 0;
+    }
+    if pick(seed, 7, 10) == 3 { n - 1 } else { n }
+}
+
+fn one_add(seed: u64, s: Size, words: &mut [u32], counts: &mut [u64])
+    requires { ⌜ (s .n1 ≤ 64) × (s .n2 ≤ 64) × (length (now words) ≤ 4240) ⌝ }
+{
+    let mut record = [0u8; 64];
+    let n = record_of(seed, record_sizes(seed, s), &mut record);
+    let at = pick(seed, 9, 30) as usize;
+    let damaged = pick(seed, 7, 10) == 2;
+    poke(
+        &mut record,
+        if damaged { at } else { PAST },
+        pick(seed, 10, 256),
+    );
+    let end = record_end(seed, n);
+    try_add(&record[0..end], words, counts);
+}
+
+// ---- reliability
+// Chances at both sides of the limit, and at random.
+fn chance(seed: u64, i: u64) -> u64
+    requires { ⌜ i ≤ 100 ⌝ }
+    ensures { λ r. ⌜ r ≤ 1000001 ⌝ }
+{
+    let kind = pick(seed, i, 12);
+    if kind < 2 {
+        return 1000000 + kind;
+    }
+    if kind == 2 {
+        return 0;
+    }
+    pick(seed, 500 + i, 1000000)
+}
+
+fn rate_number(t: &[u32], p1: u64, p2: u64) -> u64 {
+    if (p1 > 1000000) | (p2 > 1000000) {
+        return 14;
+    }
+    let s = plain::state(t);
+    if s != 0 {
+        return s;
+    }
+    if word(t, 2) == 0 { 25 } else { 0 }
+}
+
+// S modulo a prime.
+fn sum_is(t: &[u32], p1: u64, p2: u64, s: u64) -> bool
+    requires { ⌜ (p1 ≤ 1000000) × (p2 ≤ 1000000) ⌝ }
+{
+    let mut u = [0u32; 66];
+    let mut v = [0u32; 66];
+    plain::weights(p1, plain::size(word(t, 0)), &mut u);
+    plain::weights(p2, plain::size(word(t, 1)), &mut v);
+    plain::sum(t, &u, &v) == s % 999999937
+}
+
+fn rate_is(k: Rate, t: &[u32], p1: u64, p2: u64) -> bool {
+    if p1 > 1000000 {
+        return false;
+    }
+    if p2 > 1000000 {
+        return false;
+    }
+    let m = k.rounds % 200000;
+    if m == 0 {
+        return false;
+    }
+    (k.rounds == word(t, 2)) & (k.rate == k.sum / (m * 10000000)) & sum_is(t, p1, p2, k.sum)
+}
+
+fn rated(r: Rated, t: &[u32], p1: u64, p2: u64, due: u64) -> bool {
+    match r {
+        Rated::Refused(why) => answer::number(why) as u64 == due,
+        Rated::Found(k) => (due == 0) & rate_is(k, t, p1, p2),
+    }
+}
+
+fn try_rate(seed: u64, words: &[u32], counts: &mut [u64]) {
+    let p1 = chance(seed, 11);
+    let p2 = chance(seed, 12);
+    let due = rate_number(words, p1, p2);
+    let r = reliability::reliability(words, p1 as u32, p2 as u32);
+    judge(counts, 56, due, rated(r, words, p1, p2, due));
+}
+
+// ---- weights and ageing
+fn weights_number(n: u64, p: u64, room: u64) -> u64
+    requires { ⌜ n ≤ 70 ⌝ }
+{
+    if n > 64 {
+        return 6;
+    }
+    if p > 1000000 {
+        return 14;
+    }
+    if room < n + 1 { 15 } else { 0 }
+}
+
+// The weights in front, where they are due.
+fn expect_weights(p: u64, n: u64, want: &mut [u32], due: bool) {
+    if !due {
+        return;
+    }
+    if p > 1000000 {
+        return;
+    }
+    if n > 64 {
+        return;
+    }
+    let mut w = [0u32; 70];
+    let k = n as usize;
+    plain::weights(p, k, &mut w);
+    copy(&w[0..k + 1], want)
+}
+
+fn weigh(n: u64, p: u64, out: &mut [u32], counts: &mut [u64])
+    requires { ⌜ (n ≤ 70) × (p ≤ 1000001) × (length (now out) ≤ 70) ⌝ }
+{
+    let mut want = [7u32; 70];
+    let due = weights_number(n, p, out.len() as u64);
+    expect_weights(p, n, &mut want, due == 0);
+    let got = number(weights::weights(n as u32, p as u32, out));
+    let alike = plain::begins(&want, out);
+    judge(counts, 84, got, (got == due) & alike);
+}
+
+fn try_weights(seed: u64, counts: &mut [u64]) {
+    let room = pick(seed, 22, 68) as usize;
+    let mut out = [7u32; 70];
+    weigh(
+        pick(seed, 20, 67),
+        chance(seed, 21),
+        &mut out[0..room],
+        counts,
+    );
+}
+
+fn square(y: u64) -> u64
+    requires { ⌜ y ≤ 30 ⌝ }
+    ensures { λ r. ⌜ r ≤ 900 ⌝ }
+{
+    let mut s: u64 = 0;
+    let mut i: u64 = 0;
+    while i < y {
+        s += y;
+        i += 1;
+    }
+    if s > 900 { 0 } else { s }
+}
+
+fn aged(a: Aged, age: u64) -> bool {
+    match a {
+        Aged::Refused(r) => (answer::number(r) == 14) & (age > 30),
+        Aged::Chance(p) => (age <= 30) & (p as u64 == 1000000 - 1000 * square(age % 31)),
+    }
+}
+
+fn try_age(age: u64, counts: &mut [u64]) {
+    let right = aged(weights::ageing(age), age);
+    judge(counts, 112, if age > 30 { 14 } else { 0 }, right);
+}
+
+// ---- a tally: new, adds, reliability, and the same after a word is damaged
+struct Size {
+    n1: u64,
+    n2: u64,
+}
+
+fn size_of(seed: u64, i: u64) -> Size
+    ensures { λ r. ⌜ (r .n1 ≤ 64) × (r .n2 ≤ 64) ⌝ }
+{
+    if i % 7 == 0 {
+        return Size { n1: 64, n2: 64 };
+    }
+    if i % 7 == 1 {
+        return Size { n1: 0, n2: 0 };
+    }
+    Size {
+        n1: pick(seed, 1, 64),
+        n2: pick(seed, 2, 64),
+    }
+}
+
+fn damage(seed: u64, words: &mut [u32]) {
+    let kind = pick(seed, 30, 6);
+    let far = 3 + pick(seed, 31, 4230);
+    let many = 99998 + pick(seed, 32, 4);
+    put(
+        words,
+        if kind < 3 {
+            kind as usize
+        } else {
+            far as usize
+        },
+        if kind == 2 { many } else { pick(seed, 33, 70) },
+    )
+}
+
+fn adds(seed: u64, s: Size, words: &mut [u32], counts: &mut [u64])
+    requires { ⌜ (s .n1 ≤ 64) × (s .n2 ≤ 64) × (length (now words) ≤ 4240) ⌝ }
+{
+    let mut j: u64 = 0;
+    while j < 6 {
+        one_add(seed % 1000000000 + j * 977, s, words, counts);
+        j += 1;
+    }
+}
+
+// Sizes as they are, or one of them 65.
+fn new_sizes(seed: u64, s: Size) -> Size
+    requires { ⌜ (s .n1 ≤ 64) × (s .n2 ≤ 64) ⌝ }
+    ensures { λ r. ⌜ (r .n1 ≤ 65) × (r .n2 ≤ 65) ⌝ }
+{
+    let kind = pick(seed, 40, 12);
+    if kind == 0 {
+        return Size { n1: 65, n2: s.n2 };
+    }
+    if kind == 1 {
+        return Size { n1: s.n1, n2: 65 };
+    }
+    s
+}
+
+// A slice with room and a few words to spare, or one word short, or without a head.
+fn room(seed: u64, s: Size) -> usize
+    ensures { λ r. ⌜ r ≤ 4240 ⌝ }
+{
+    let kind = pick(seed, 41, 10);
+    if kind == 0 {
+        return 2;
+    }
+    let n = cells_of(s.n1, s.n2);
+    if kind == 1 {
+        return 2 + n;
+    }
+    3 + n + pick(seed, 42, 4) as usize
+}
+
+// A new tally, and its reliability: no rounds.
+fn start(seed: u64, s: Size, words: &mut [u32], counts: &mut [u64])
+    requires { ⌜ (s .n1 ≤ 64) × (s .n2 ≤ 64) × (length (now words) ≤ 4240) × (seed < 2147483648) ⌝ }
+{
+    let first = new_sizes(seed, s);
+    try_new(first.n1, first.n2, words, counts);
+    try_rate(seed + 2, words, counts);
+}
+
+// Adds and reliability, and both again after a word is damaged.
+fn go_on(seed: u64, s: Size, words: &mut [u32], counts: &mut [u64])
+    requires { ⌜ (s .n1 ≤ 64) × (s .n2 ≤ 64) × (length (now words) ≤ 4240) × (seed < 2147483648) ⌝ }
+{
+    adds(seed, s, words, counts);
+    try_rate(seed, words, counts);
+    damage(seed, words);
+    one_add(seed, s, words, counts);
+    try_rate(seed + 1, words, counts);
+}
+
+fn in_slice(seed: u64, s: Size, words: &mut [u32], counts: &mut [u64])
+    requires { ⌜ (s .n1 ≤ 64) × (s .n2 ≤ 64) × (length (now words) ≤ 4240) × (seed < 2147483648) ⌝ }
+{
+    start(seed, s, words, counts);
+    go_on(seed, s, words, counts);
+    try_weights(seed, counts);
+}
+
+fn try_tally(i: u64, counts: &mut [u64]) {
+    let seed = trial::seed(i);
+    let s = size_of(seed, i);
+    let mut words = [0u32; 4240];
+    junk(seed, &mut words);
+    let len = room(seed, s);
+    in_slice(seed, s, &mut words[0..len], counts);
+}
+
+fn tallies(counts: &mut [u64]) {
+    let mut i: u64 = 0;
+    while i < 700 {
+        try_tally(i, counts);
+        i += 1;
+    }
+}
+
+fn ages(counts: &mut [u64]) {
+    let mut y: u64 = 0;
+    while y < 40 {
+        try_age(y, counts);
+        y += 1;
+    }
+    try_age(18446744073709551615, counts);
+}
+
+fn main() {
+    let mut counts = [0u64; 140];
+    tallies(&mut counts);
+    ages(&mut counts);
+    io::write_all(STDOUT_FILENO, b"new\n");
+    show(&counts, 0);
+    io::write_all(STDOUT_FILENO, b"add\n");
+    show(&counts, 28);
+    io::write_all(STDOUT_FILENO, b"reliability\n");
+    show(&counts, 56);
+    io::write_all(STDOUT_FILENO, b"weights\n");
+    show(&counts, 84);
+    io::write_all(STDOUT_FILENO, b"ageing\n");
+    show(&counts, 112);
+}
