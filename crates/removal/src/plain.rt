@@ -1,6 +1,7 @@
 // Removal testing, and all paths one by one: no code is shared with the library.
 use trial::byte;
 use trial::poke;
+use trial::record_holds;
 ghost use Prim.Native.Nat.{_≤_, _<_};
 ghost use lib.ListN.{length};
 
@@ -94,20 +95,6 @@ pub(crate) fn table(arcs: &[u8], order1: &[u8], order2: &[u8], cells: &mut [u8])
         poke(cells, i, if holds { 1 } else { 0 });
         i += 1;
     }
-}
-
-// Whether a pair of the record is above (a, b) in both numbers.
-fn record_holds(record: &[u8], a: u64, b: u64) -> bool {
-    let k = byte(record, 2) as usize;
-    let mut i: usize = 0;
-    let mut holds = false;
-    while i < k {
-        let p1 = byte(record, 3 + 2 * i);
-        let p2 = byte(record, 4 + 2 * i);
-        holds = holds | ((a < p1) & (b < p2));
-        i += 1;
-    }
-    holds
 }
 
 // The cells in which record and table differ.

@@ -1,5 +1,5 @@
 // What the test programs share: numbers from a seed, bytes read and stored without a thought for
-// ends, comparison, and lines of output.
+// ends, comparison, where a record holds, and lines of output.
 use libc::STDOUT_FILENO;
 ghost use Prim.Native.Nat.{_≤_, _<_};
 
@@ -61,6 +61,20 @@ pub fn equal(a: &[u8], b: &[u8]) -> bool {
         i += 1;
     }
     true
+}
+
+// Whether a pair of the record is above (a, b) in both numbers.
+pub fn record_holds(record: &[u8], a: u64, b: u64) -> bool {
+    let k = byte(record, 2) as usize;
+    let mut i: usize = 0;
+    let mut holds = false;
+    while i < k {
+        let p1 = byte(record, 3 + 2 * i);
+        let p2 = byte(record, 4 + 2 * i);
+        holds = holds | ((a < p1) & (b < p2));
+        i += 1;
+    }
+    holds
 }
 
 // A line of output: a name and a number.

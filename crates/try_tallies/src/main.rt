@@ -395,10 +395,16 @@ fn size_of(seed: u64, i: u64) -> Size
     }
 }
 
+// A word changed: n1 near 64, any n2, M near 100,000, or a cell.
 fn damage(seed: u64, words: &mut [u32]) {
     let kind = pick(seed, 30, 6);
     let far = 3 + pick(seed, 31, 4230);
     let many = 99998 + pick(seed, 32, 4);
+    let size = if kind == 0 {
+        63 + pick(seed, 33, 4)
+    } else {
+        pick(seed, 33, 70)
+    };
     put(
         words,
         if kind < 3 {
@@ -406,7 +412,7 @@ fn damage(seed: u64, words: &mut [u32]) {
         } else {
             far as usize
         },
-        if kind == 2 { many } else { pick(seed, 33, 70) },
+        if kind == 2 { many } else { size },
     )
 }
 

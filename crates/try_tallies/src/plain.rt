@@ -1,6 +1,7 @@
 // A plain reading of document 01 for tallies, weights and reliability, cell by cell: no code is
 // shared with the library.
 use trial::byte;
+use trial::record_holds;
 ghost use Prim.Native.Nat.{_+_, _*_, _≤_, _<_};
 ghost use lib.ListN.{length};
 
@@ -57,17 +58,6 @@ fn is_record(r: &[u8]) -> bool {
         i += 1;
     }
     good
-}
-
-fn holds(r: &[u8], a: u64, b: u64) -> bool {
-    let k = byte(r, 2) as usize;
-    let mut some = false;
-    let mut i: usize = 0;
-    while i < k {
-        some = some | ((a < byte(r, 3 + 2 * i)) & (b < byte(r, 4 + 2 * i)));
-        i += 1;
-    }
-    some
 }
 
 // ---- tallies
@@ -145,7 +135,15 @@ pub(crate) fn add(r: &[u8], t: &mut [u32], due: bool) {
         let a = (n1 - least(k / (n2 + 1), n1)) as u64;
         let b = (n2 - least(k % (n2 + 1), n2)) as u64;
         let x = word(t, 3 + k) + 1;
-        put(t, if due & holds(r, a, b) { 3 + k } else { PAST }, x);
+        put(
+            t,
+            if due & record_holds(r, a, b) {
+                3 + k
+            } else {
+                PAST
+            },
+            x,
+        );
         k += 1;
     }
 }

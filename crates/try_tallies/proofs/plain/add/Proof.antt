@@ -72,8 +72,8 @@ word-requires-4 c κs = search needs
 add-x : tie.Need-add-x Inv-loop μ-loop
 add-x c = search needs
 
-holds-requires : tie.Need-holds-requires Inv-loop μ-loop
-holds-requires c κs = search needs
+record-holds-requires : tie.Need-record-holds-requires Inv-loop μ-loop
+record-holds-requires c κs = search needs
 
 add-put : tie.Need-add-put Inv-loop μ-loop
 add-put c = search needs
@@ -122,7 +122,7 @@ add-spec =
     add-word
     word-requires-4
     add-x
-    holds-requires
+    record-holds-requires
     add-put
     put-requires-2
     add-k

@@ -1,8 +1,8 @@
 -- The loop of `record_holds` goes over the pairs.
 use Prim.Native.Nat.{_-_, _≤_}
 use borrow.Author.Needs.{needs}
-use Rattle.removal.proofs.plain.record_holds.Statement.{statement}
-use Rattle.removal.proofs.plain.record_holds.Tie as tie
+use Rattle.trial.proofs.record_holds.Statement.{statement}
+use Rattle.trial.proofs.record_holds.Tie as tie
 
 abbrev Inv-loop : tie.InvT-loop
 Inv-loop «record» a b k i₀ holds₀ i holds = (i ≤ k) × (k ≤ 255)
