@@ -2,7 +2,7 @@
 use mathlib.Core.Path.{_≡_, refl}
 use mathlib.Core.Bool.{true, false}
 use mathlib.Core.List.{List, [], _∷_}
-use Prim.Native.Nat.{ℕ}
+use Prim.Native.Nat.{ℕ, _*_}
 use Rattle.answer.specs.Outcome.{success, refused}
 use Rattle.slices.specs.Bytes.{wordAt}
 use Rattle.study.specs.File.{trailer}
@@ -10,7 +10,9 @@ use Rattle.study.specs.Calls.{badOrders, openAnswer, checkAnswer, lookupPart}
 use Rattle.writer.specs.Writer.{Given, given, studyBytes, writeAnswer}
 use Rattle.record.specs.Record.{isRecord, recordHolds}
 use Rattle.search.specs.Search.{searchAnswer, searchOut}
-use Rattle.tally.specs.Calls.{newOut, addOut}
+use Rattle.chance.specs.Chance.{sumE, scaleD}
+use Rattle.soundness.specs.Tally.{cell, stateAnswer}
+use Rattle.tally.specs.Calls.{newOut, addAnswer, addOut}
 use Rattle.weights.specs.Calls.{weightsAnswer, weightsOut}
 use Rattle.reliability.specs.Calls.{rateAnswer}
 use Rattle.compose.specs.Compose.{seriesAnswer, seriesOut, parallelAnswer, parallelOut}
@@ -36,15 +38,15 @@ oneArc = studyBytes (given (0 ∷ 0 ∷ []) (0 ∷ 1 ∷ []) [] 0 1 1)
 abbrev pub ring : List ℕ
 ring = 2 ∷ 2 ∷ 3 ∷ 3 ∷ 1 ∷ 2 ∷ 2 ∷ 1 ∷ 3 ∷ []
 
--- a new tally for the ring, with a word to spare, and R2's record added
-abbrev pub ringTally : List ℕ
-ringTally = addOut ring (newOut 2 2 (9 ∷ 9 ∷ 9 ∷ 9 ∷ 9 ∷ 9 ∷ 9 ∷ 9 ∷ 9 ∷ 9 ∷ 9 ∷ 9 ∷ 7 ∷ []))
-
 abbrev pub other : List ℕ
 other = 2 ∷ 2 ∷ 1 ∷ 2 ∷ 3 ∷ []
 
 abbrev pub empty : List ℕ
 empty = 2 ∷ 2 ∷ 0 ∷ []
+
+-- a new tally for the ring, with a word to spare, and R2's record added
+abbrev pub ringTally : List ℕ
+ringTally = addOut ring (newOut 2 2 (9 ∷ 9 ∷ 9 ∷ 9 ∷ 9 ∷ 9 ∷ 9 ∷ 9 ∷ 9 ∷ 9 ∷ 9 ∷ 9 ∷ 7 ∷ []))
 
 -- an output slice of ten bytes
 abbrev pub ten : List ℕ
@@ -63,8 +65,6 @@ pub record Table : Type 0 where
   pub r1-orders : badOrders ringFile 0 ≡ false
   pub r1-ten : checkAnswer ringFile 1 ≡ refused 10
   pub r1-short : writeAnswer (ringWith (3 ∷ 2 ∷ 5 ∷ 4 ∷ [])) 55 ≡ refused 15
-  -- R9 round 3 3 5 4: 11
-  pub r9 : writeAnswer (ringWith (3 ∷ 3 ∷ 5 ∷ 4 ∷ [])) 56 ≡ refused 11
   -- R2 front record: 2 2 3 3 1 2 2 1 3. It holds at (2, 0), not at (2, 1)
   pub r2-answer : searchAnswer ringFile 0 10 ≡ success (9 ∷ [])
   pub r2-out : searchOut ringFile 0 ten ≡ 2 ∷ 2 ∷ 3 ∷ 3 ∷ 1 ∷ 2 ∷ 2 ∷ 1 ∷ 3 ∷ 9 ∷ []
@@ -88,13 +88,19 @@ pub record Table : Type 0 where
   -- R7 both chances 500,000: S = 68,750,000,000,000, M = 1, R = 6,875,000; of R2's record in a new tally
   pub r7-tally : ringTally ≡ 2 ∷ 2 ∷ 1 ∷ 0 ∷ 0 ∷ 1 ∷ 0 ∷ 1 ∷ 1 ∷ 1 ∷ 1 ∷ 1 ∷ 7 ∷ []
   pub r7 : rateAnswer ringTally 500000 500000 ≡ success (68750000000000 ∷ 1 ∷ 6875000 ∷ [])
+  -- where R is exact: 10^7 × E = R × D
+  pub r7-exact : 10000000 * sumE 2 2 500000 500000 (cell ringTally) ≡ 6875000 * scaleD 2 2
+  -- R9 round 3 3 5 4: 11
+  pub r9 : writeAnswer (ringWith (3 ∷ 3 ∷ 5 ∷ 4 ∷ [])) 56 ≡ refused 11
+  -- R10 no arcs: record 2 2 0
+  pub r10 : searchOut noArcs 0 ten ≡ 2 ∷ 2 ∷ 0 ∷ 9 ∷ 9 ∷ 9 ∷ 9 ∷ 9 ∷ 9 ∷ 9 ∷ []
   -- R11 chance 1,000,000 accepted, 1,000,001 gives 14
   pub r11-weights : weightsAnswer 2 1000000 3 ≡ success (0 ∷ [])
   pub r11-weights-14 : weightsAnswer 2 1000001 0 ≡ refused 14
   pub r11-rate : rateAnswer ringTally 1000000 1000000 ≡ success (100000000000000 ∷ 1 ∷ 10000000 ∷ [])
   pub r11-rate-14 : rateAnswer [] 0 1000001 ≡ refused 14
-  -- R10 no arcs: record 2 2 0
-  pub r10 : searchOut noArcs 0 ten ≡ 2 ∷ 2 ∷ 0 ∷ 9 ∷ 9 ∷ 9 ∷ 9 ∷ 9 ∷ 9 ∷ 9 ∷ []
+  -- the formula itself, with 0^0 = 1: every node works, and E = D
+  pub r11-exact : sumE 2 2 1000000 1000000 (cell ringTally) ≡ scaleD 2 2
   -- R12 n1 = n2 = 0 and arc 0 1: record 0 0 1 1 1
   pub r12 : searchOut oneArc 0 ten ≡ 0 ∷ 0 ∷ 1 ∷ 1 ∷ 1 ∷ 9 ∷ 9 ∷ 9 ∷ 9 ∷ 9 ∷ []
   -- the numbers: 12 before 13, 13 before 15, 15 last; p1 may be n1 + 1 and no more; no spare byte
@@ -107,6 +113,16 @@ pub record Table : Type 0 where
   pub zero : isRecord (1 ∷ 2 ∷ 1 ∷ 0 ∷ 3 ∷ []) ≡ false
   pub twice : isRecord (2 ∷ 2 ∷ 2 ∷ 2 ∷ 2 ∷ 2 ∷ 2 ∷ []) ≡ false
   pub large : isRecord (65 ∷ 0 ∷ 0 ∷ []) ≡ false
+  -- the numbers of a tally: a size above 64 is 22, however short the slice; 22 before 24 and 25
+  pub n21 : stateAnswer (64 ∷ 64 ∷ 0 ∷ []) ≡ refused 21
+  pub n21-head : stateAnswer (65 ∷ 0 ∷ []) ≡ refused 21
+  pub n22 : stateAnswer (65 ∷ 0 ∷ 0 ∷ []) ≡ refused 22
+  pub n22-rounds : addAnswer (0 ∷ 0 ∷ 0 ∷ []) (0 ∷ 0 ∷ 100001 ∷ 0 ∷ []) ≡ refused 22
+  pub n22-fall : rateAnswer (1 ∷ 0 ∷ 0 ∷ 1 ∷ 0 ∷ []) 0 0 ≡ refused 22
+  pub n23 : addAnswer ring (0 ∷ 0 ∷ 100000 ∷ 0 ∷ []) ≡ refused 23
+  pub n24 : addAnswer (0 ∷ 0 ∷ 0 ∷ []) (0 ∷ 0 ∷ 100000 ∷ 0 ∷ []) ≡ refused 24
+  pub n25 : rateAnswer (0 ∷ 0 ∷ 0 ∷ 0 ∷ []) 0 0 ≡ refused 25
+  pub n99999 : addAnswer (0 ∷ 0 ∷ 0 ∷ []) (0 ∷ 0 ∷ 99999 ∷ 99999 ∷ []) ≡ success (0 ∷ [])
 
 pub table : Table
 unfolding wordAt
@@ -122,7 +138,6 @@ table =
       r1-orders = refl;
       r1-ten = refl;
       r1-short = refl;
-      r9 = refl;
       r2-answer = refl;
       r2-out = refl;
       r2-ten = refl;
@@ -140,11 +155,14 @@ table =
       r6-out = refl;
       r7-tally = refl;
       r7 = refl;
+      r7-exact = refl;
+      r9 = refl;
+      r10 = refl;
       r11-weights = refl;
       r11-weights-14 = refl;
       r11-rate = refl;
       r11-rate-14 = refl;
-      r10 = refl;
+      r11-exact = refl;
       r12 = refl;
       n12 = refl;
       n13 = refl;
@@ -155,4 +173,13 @@ table =
       zero = refl;
       twice = refl;
       large = refl;
+      n21 = refl;
+      n21-head = refl;
+      n22 = refl;
+      n22-rounds = refl;
+      n22-fall = refl;
+      n23 = refl;
+      n24 = refl;
+      n25 = refl;
+      n99999 = refl;
     }
