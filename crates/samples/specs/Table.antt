@@ -3,6 +3,7 @@ use mathlib.Core.Path.{_≡_, refl}
 use mathlib.Core.Bool.{true, false}
 use mathlib.Core.List.{List, [], _∷_}
 use Prim.Native.Nat.{ℕ, _*_}
+use lib.ListN.{replicate}
 use Rattle.answer.specs.Outcome.{success, refused}
 use Rattle.slices.specs.Bytes.{wordAt}
 use Rattle.study.specs.File.{trailer}
@@ -15,11 +16,19 @@ use Rattle.soundness.specs.Tally.{cell, stateAnswer}
 use Rattle.tally.specs.Calls.{newOut, addAnswer, addOut}
 use Rattle.weights.specs.Calls.{weightsAnswer, weightsOut}
 use Rattle.reliability.specs.Calls.{rateAnswer}
+use Rattle.lines.specs.Text.{ascii, decimal}
+use Rattle.lines.specs.Report.{reportText}
 use Rattle.compose.specs.Compose.{seriesAnswer, seriesOut, parallelAnswer, parallelOut}
 
 -- "Nodes 0 to 5 of classes 0, 0, 1, 1, 2, 2; s 0, t 1; arcs 0 2, 2 4, 4 1, 0 3, 3 1, 0 5, 5 1", with one round
+abbrev pub ringNodes : List ℕ
+ringNodes = 0 ∷ 0 ∷ 1 ∷ 1 ∷ 2 ∷ 2 ∷ []
+
+abbrev pub ringArcs : List ℕ
+ringArcs = 0 ∷ 2 ∷ 2 ∷ 4 ∷ 4 ∷ 1 ∷ 0 ∷ 3 ∷ 3 ∷ 1 ∷ 0 ∷ 5 ∷ 5 ∷ 1 ∷ []
+
 abbrev pub ringWith : List ℕ → Given
-ringWith round = given (0 ∷ 0 ∷ 1 ∷ 1 ∷ 2 ∷ 2 ∷ []) (0 ∷ 2 ∷ 2 ∷ 4 ∷ 4 ∷ 1 ∷ 0 ∷ 3 ∷ 3 ∷ 1 ∷ 0 ∷ 5 ∷ 5 ∷ 1 ∷ []) round 0 1 1
+ringWith round = given ringNodes ringArcs round 0 1 1
 
 -- its study file: nodes, arcs, the round 3 2 5 4, then the eight numbers of the trailer
 abbrev pub ringFile : List ℕ
@@ -29,10 +38,17 @@ ringFile =
 
 -- the ring without arcs, and two nodes of class 0 with an arc between them
 abbrev pub noArcs : List ℕ
-noArcs = studyBytes (given (0 ∷ 0 ∷ 1 ∷ 1 ∷ 2 ∷ 2 ∷ []) [] (3 ∷ 2 ∷ 5 ∷ 4 ∷ []) 0 1 1)
+noArcs = studyBytes (given ringNodes [] (3 ∷ 2 ∷ 5 ∷ 4 ∷ []) 0 1 1)
 
 abbrev pub oneArc : List ℕ
 oneArc = studyBytes (given (0 ∷ 0 ∷ []) (0 ∷ 1 ∷ []) [] 0 1 1)
+
+-- the ring with three rounds, of which the second has an order that is none; two nodes and no round
+abbrev pub badSecond : Given
+badSecond = given ringNodes ringArcs (3 ∷ 2 ∷ 5 ∷ 4 ∷ 3 ∷ 3 ∷ 5 ∷ 4 ∷ 2 ∷ 3 ∷ 4 ∷ 5 ∷ []) 0 1 3
+
+abbrev pub noRounds : List ℕ
+noRounds = studyBytes (given (0 ∷ 0 ∷ []) (0 ∷ 1 ∷ []) [] 0 1 0)
 
 -- the ring's record, the record that R3 and R4 join it with, and an empty front
 abbrev pub ring : List ℕ
@@ -80,6 +96,8 @@ pub record Table : Type 0 where
   pub r4-answer : parallelAnswer ring other 10 ≡ success (7 ∷ [])
   pub r4-out : parallelOut ring other ten ≡ 2 ∷ 2 ∷ 2 ∷ 3 ∷ 1 ∷ 2 ∷ 3 ∷ 9 ∷ 9 ∷ 9 ∷ []
   -- R5 row with an empty front: empty; side: R2
+  pub r5-row-answer : seriesAnswer ring empty 10 ≡ success (3 ∷ [])
+  pub r5-side-answer : parallelAnswer ring empty 10 ≡ success (9 ∷ [])
   pub r5-row : seriesOut ring empty ten ≡ 2 ∷ 2 ∷ 0 ∷ 9 ∷ 9 ∷ 9 ∷ 9 ∷ 9 ∷ 9 ∷ 9 ∷ []
   pub r5-side : parallelOut ring empty ten ≡ 2 ∷ 2 ∷ 3 ∷ 3 ∷ 1 ∷ 2 ∷ 2 ∷ 1 ∷ 3 ∷ 9 ∷ []
   -- R6 weights, n = 2, p = 333,333: 4,444,449; 4,444,443; 1,111,108
@@ -90,9 +108,21 @@ pub record Table : Type 0 where
   pub r7 : rateAnswer ringTally 500000 500000 ≡ success (68750000000000 ∷ 1 ∷ 6875000 ∷ [])
   -- where R is exact: 10^7 × E = R × D
   pub r7-exact : 10000000 * sumE 2 2 500000 500000 (cell ringTally) ≡ 6875000 * scaleD 2 2
+  -- R8 the reporting program, given R1's file, prints whole
+  pub r8 : reportText ringFile ≡ ascii "sizes 2 2 rounds 1\nfront 0: 3,1 2,2 1,3\ncount 0: 0 0 1\ncount 1: 0 1 1\ncount 2: 1 1 1\n"
+  -- "none at opening": empty input, and one byte too many
+  pub r8-empty : reportText [] ≡ ascii "refused 1\n"
+  pub r8-long : reportText (replicate 65537 0) ≡ ascii "refused 1\n"
+  -- "those before its own at a bad round": the second of three
+  pub r8-bad : reportText (studyBytes badSecond) ≡ ascii "sizes 2 2 rounds 3\nfront 0: 3,1 2,2 1,3\nrefused 11\n"
+  -- "an empty front prints none"; no rounds, no fronts
+  pub r8-none : reportText noArcs ≡ ascii "sizes 2 2 rounds 1\nfront 0: none\ncount 0: 0 0 0\ncount 1: 0 0 0\ncount 2: 0 0 0\n"
+  pub r8-no-rounds : reportText noRounds ≡ ascii "sizes 0 0 rounds 0\ncount 0: 0\n"
   -- R9 round 3 3 5 4: 11
   pub r9 : writeAnswer (ringWith (3 ∷ 3 ∷ 5 ∷ 4 ∷ [])) 56 ≡ refused 11
+  pub r9-search : searchAnswer (studyBytes (ringWith (3 ∷ 3 ∷ 5 ∷ 4 ∷ []))) 0 10 ≡ refused 11
   -- R10 no arcs: record 2 2 0
+  pub r10-answer : searchAnswer noArcs 0 10 ≡ success (3 ∷ [])
   pub r10 : searchOut noArcs 0 ten ≡ 2 ∷ 2 ∷ 0 ∷ 9 ∷ 9 ∷ 9 ∷ 9 ∷ 9 ∷ 9 ∷ 9 ∷ []
   -- R11 chance 1,000,000 accepted, 1,000,001 gives 14
   pub r11-weights : weightsAnswer 2 1000000 3 ≡ success (0 ∷ [])
@@ -102,6 +132,7 @@ pub record Table : Type 0 where
   -- the formula itself, with 0^0 = 1: every node works, and E = D
   pub r11-exact : sumE 2 2 1000000 1000000 (cell ringTally) ≡ scaleD 2 2
   -- R12 n1 = n2 = 0 and arc 0 1: record 0 0 1 1 1
+  pub r12-answer : searchAnswer oneArc 0 10 ≡ success (5 ∷ [])
   pub r12 : searchOut oneArc 0 ten ≡ 0 ∷ 0 ∷ 1 ∷ 1 ∷ 1 ∷ 9 ∷ 9 ∷ 9 ∷ 9 ∷ 9 ∷ []
   -- the numbers: 12 before 13, 13 before 15, 15 last; p1 may be n1 + 1 and no more; no spare byte
   pub n12 : seriesAnswer (1 ∷ 1 ∷ 0 ∷ 0 ∷ []) ring 0 ≡ refused 12
@@ -125,7 +156,7 @@ pub record Table : Type 0 where
   pub n99999 : addAnswer (0 ∷ 0 ∷ 0 ∷ []) (0 ∷ 0 ∷ 99999 ∷ 99999 ∷ []) ≡ success (0 ∷ [])
 
 pub table : Table
-unfolding wordAt
+unfolding wordAt decimal
 table =
     record {
       r1-answer = refl;
@@ -149,6 +180,8 @@ table =
       r3-out = refl;
       r4-answer = refl;
       r4-out = refl;
+      r5-row-answer = refl;
+      r5-side-answer = refl;
       r5-row = refl;
       r5-side = refl;
       r6-answer = refl;
@@ -156,13 +189,22 @@ table =
       r7-tally = refl;
       r7 = refl;
       r7-exact = refl;
+      r8 = refl;
+      r8-empty = refl;
+      r8-long = refl;
+      r8-bad = refl;
+      r8-none = refl;
+      r8-no-rounds = refl;
       r9 = refl;
+      r9-search = refl;
+      r10-answer = refl;
       r10 = refl;
       r11-weights = refl;
       r11-weights-14 = refl;
       r11-rate = refl;
       r11-rate-14 = refl;
       r11-exact = refl;
+      r12-answer = refl;
       r12 = refl;
       n12 = refl;
       n13 = refl;

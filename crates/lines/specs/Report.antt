@@ -1,0 +1,97 @@
+-- The whole report on the bytes of standard input (document 01, "Writer and program").
+use mathlib.Core.Path.{_≡_}
+use mathlib.Core.Bool.{Bool, true, cond}
+use mathlib.Core.List.{List, [], _∷_, _++_}
+use Prim.Native.Nat.{ℕ, zero, suc, _+_, _-_, _*_, _≤_, _<_, min}
+use lib.Dec.{ltb}
+use lib.ListN.{length, getD, take, drop, replicate}
+use Rattle.answer.specs.Outcome.{Outcome, success, refused}
+use Rattle.study.specs.Calls.{openAnswer}
+use Rattle.search.specs.Search.{searchBytes, searchAnswer}
+use Rattle.soundness.specs.Tally.{head, size2, width}
+use Rattle.tally.specs.Calls.{newOut, addOut}
+use Rattle.lines.specs.Text.{sizesLine, frontLine, countLine, refusedLine}
+
+-- the row of a tally for l1
+abbrev pub row : List ℕ → ℕ → List ℕ
+row t l1 = take (width (size2 t)) (drop (head + l1 * width (size2 t)) t)
+
+-- the counts from l1 on, k lines
+abbrev pub countLines : ℕ → ℕ → List ℕ → List (List ℕ)
+countLines zero l1 t = []
+countLines (suc k) l1 t = countLine l1 (row t l1) ∷ countLines k (suc l1) t
+
+-- what follows an answer: of a refusal, or of a success
+abbrev pub either : {A : Type 0} → Outcome → (ℕ → A) → (List ℕ → A) → A
+either (refused n) g h = g n
+either (success v) g h = h v
+
+-- the tally t once the first r rounds are added
+abbrev pub tallied : List ℕ → List ℕ → ℕ → List ℕ
+tallied f t zero = t
+tallied f t (suc r) = addOut (searchBytes f r) (tallied f t r)
+
+-- the search of round r; 133 bytes hold any record
+abbrev pub searched : List ℕ → ℕ → Outcome
+searched f r = searchAnswer f r 133
+
+-- the line of round r, and the tally after it
+abbrev pub roundLine : List ℕ → ℕ → List ℕ
+roundLine f r = either (searched f r) refusedLine (λ v. frontLine r (searchBytes f r))
+
+abbrev pub roundTally : List ℕ → ℕ → List ℕ → List ℕ
+roundTally f r t = either (searched f r) (λ n. t) (λ v. addOut (searchBytes f r) t)
+
+-- the fronts from round r on, k of them, and then the counts; a bad round ends the report
+abbrev pub roundLines : List ℕ → List ℕ → ℕ → ℕ → ℕ → List (List ℕ)
+roundLines f t n1 zero r = countLines (n1 + 1) 0 (tallied f t r)
+roundLines f t n1 (suc k) r = roundLine f r ∷ either (searched f r) (λ n. []) (λ v. roundLines f t n1 k (suc r))
+
+-- N, A, M, s, t, n1, n2 of a study: what the report takes of them
+abbrev pub roundsOf : List ℕ → ℕ
+roundsOf v = getD v 2 0
+
+-- a new tally; 4,228 words hold any
+abbrev pub freshFor : List ℕ → List ℕ
+freshFor v = newOut (getD v 5 0) (getD v 6 0) (replicate 4228 0)
+
+-- the lines of an open study
+abbrev pub openLines : List ℕ → List ℕ → List (List ℕ)
+openLines f v = sizesLine (getD v 5 0) (getD v 6 0) (roundsOf v) ∷ roundLines f (freshFor v) (getD v 5 0) (roundsOf v) 0
+
+-- what opening answers; number 1 above 65,536 bytes too
+abbrev pub reportOpens : List ℕ → Outcome
+reportOpens f = cond (ltb 65536 (length f)) (refused 1) (openAnswer f)
+
+-- THE REPORT, line by line and whole
+abbrev pub reportLines : List ℕ → List (List ℕ)
+reportLines f = either (reportOpens f) (λ n. refusedLine n ∷ []) (openLines f)
+
+abbrev pub joined : List (List ℕ) → List ℕ
+joined [] = []
+joined (l ∷ ls) = l ++ joined ls
+
+abbrev pub reportText : List ℕ → List ℕ
+reportText f = joined (reportLines f)
+
+-- ---- line after line
+-- line i; nothing past the last
+abbrev pub lineAt : List ℕ → ℕ → List ℕ
+lineAt f i = getD (reportLines f) i []
+
+-- line i of an open study is due, with the tally t
+pub record Due (f v : List ℕ) (i : ℕ) (t : List ℕ) : Type 0 where
+  -- there is such a line
+  pub line : i < length (reportLines f)
+  -- the tally has the rounds whose lines stand before it
+  pub tally : t ≡ tallied f (freshFor v) (min (i - 1) (roundsOf v))
+
+-- after line i: whether another follows, and is due with the tally t
+pub record Next (f v : List ℕ) (i : ℕ) (b : Bool) (t : List ℕ) : Type 0 where
+  pub more : b ≡ ltb (i + 1) (length (reportLines f))
+  pub due : b ≡ true → Due f v (i + 1) t
+
+-- n lines of a report were written, and whether that is all of them
+pub record SentOf (ls : List (List ℕ)) (n : ℕ) (whole : Bool) : Type 0 where
+  pub some : n ≤ length ls
+  pub all : whole ≡ true → n ≡ length ls

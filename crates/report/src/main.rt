@@ -1,0 +1,177 @@
+// The reporting program: a study file on standard input, its report on standard output.
+use answer::Header;
+use answer::Opened;
+use answer::Refusal;
+use answer::Written;
+use libc::STDIN_FILENO;
+use libc::STDOUT_FILENO;
+ghost use mathlib.Core.Path.{_≡_};
+ghost use mathlib.Core.Bool.{false};
+ghost use Prim.Native.Nat.{_≤_};
+ghost use lib.Dec.{T};
+ghost use lib.ListN.{length};
+ghost use Rattle.slices.specs.Bytes.{placed};
+ghost use Rattle.answer.specs.Outcome.{success, refused, numberOf, headerValues, opened};
+ghost use Rattle.record.specs.Record.{isRecord};
+ghost use Rattle.tally.specs.Calls.{addOut};
+ghost use Rattle.tally.specs.Adds.{succeeds};
+ghost use Rattle.lines.specs.Text.{frontLine, refusedLine};
+ghost use Rattle.lines.specs.Report.{searched, roundLine, roundTally, reportOpens, reportLines, lineAt, Due, Next, SentOf};
+
+// A line in the buffer, and whether another follows.
+struct Line {
+    length: usize,
+    more: bool,
+}
+
+// The last line where something is refused.
+fn refuse(number: u32, out: &mut [u8]) -> Line
+    requires { ⌜ 4096 ≤ length (now out) ⌝ }
+    ensures told { λ r. ⌜ (r .length ≡ length (refusedLine number)) × (r .more ≡ false) ⌝ }
+    ensures slice { λ _. ⌜ now (out .exit) ≡ placed 0 (refusedLine number) (now (out .entry)) ⌝ }
+{
+    Line {
+        length: lines::refused_line(number as u64, out),
+        more: false,
+    }
+}
+
+// The line of a front, which is added to the tally.
+fn add_front(round: usize, record: &[u8], tally: &mut [u32], out: &mut [u8]) -> usize
+    requires { ⌜ (4096 ≤ length (now out)) × T (isRecord (now «record»)) ⌝ }
+    ensures end { λ r. ⌜ r ≡ length (frontLine round (now («record» .entry))) ⌝ }
+    ensures slice { λ _. ⌜ now (out .exit) ≡ placed 0 (frontLine round (now («record» .entry))) (now (out .entry)) ⌝ }
+    ensures tally { λ _. ⌜ now (tally .exit) ≡ addOut (now («record» .entry)) (now (tally .entry)) ⌝ }
+{
+    tally::add(record, tally);
+    lines::front_line(round as u64, record, out)
+}
+
+// The line of a round.
+fn round_line(file: &[u8], round: usize, tally: &mut [u32], out: &mut [u8]) -> Line
+    requires { ⌜ 4096 ≤ length (now out) ⌝ }
+    ensures told { λ r. ⌜ (r .length ≡ length (roundLine (now (file .entry)) round)) × (r .more ≡ succeeds (searched (now (file .entry)) round)) ⌝ }
+    ensures slice { λ _. ⌜ now (out .exit) ≡ placed 0 (roundLine (now (file .entry)) round) (now (out .entry)) ⌝ }
+    ensures tally { λ _. ⌜ now (tally .exit) ≡ roundTally (now (file .entry)) round (now (tally .entry)) ⌝ }
+{
+    let mut record = [0u8; 133];
+    match search::search(file, round, &mut record) {
+        Written::Refused(r) => refuse(answer::number(r), out),
+        Written::Bytes(n) => Line {
+            length: add_front(round, &record[..n], tally, out),
+            more: true,
+        },
+    }
+}
+
+// Line i of an open study: its sizes, then its rounds, then its counts.
+fn study_line(file: &[u8], h: Header, i: usize, tally: &mut [u32], out: &mut [u8]) -> Line
+    requires { ⌜ (4096 ≤ length (now out)) × (reportOpens (now file) ≡ success (headerValues h)) × Due (now file) (headerValues h) i (now tally) ⌝ }
+    ensures end { λ r. ⌜ r .length ≡ length (lineAt (now (file .entry)) i) ⌝ }
+    ensures slice { λ _. ⌜ now (out .exit) ≡ placed 0 (lineAt (now (file .entry)) i) (now (out .entry)) ⌝ }
+    ensures next { λ r. ⌜ Next (now (file .entry)) (headerValues h) i (r .more) (now (tally .exit)) ⌝ }
+{
+    if i == 0 {
+        return Line {
+            length: lines::sizes_line(h.n1 as u64, h.n2 as u64, h.rounds as u64, out),
+            more: true,
+        };
+    }
+    let round = i - 1;
+    if round < h.rounds {
+        return round_line(file, round, tally, out);
+    }
+    let l1 = round - h.rounds;
+    Line {
+        length: lines::count_line(l1, tally, out),
+        more: l1 < h.n1,
+    }
+}
+
+// Writes line i of the report; whether that succeeded. `file` is lent for what is asked of `line`.
+fn write_line(file: &[u8], i: usize, line: &[u8]) -> bool
+    requires { ⌜ now line ≡ lineAt (now file) i ⌝ }
+{
+    io::write_all(STDOUT_FILENO, line)
+}
+
+// How many lines were written, and whether that is all of them: a write may fail.
+struct Sent {
+    lines: usize,
+    whole: bool,
+}
+
+// The report on an open study, line after line up to the first write that fails.
+fn report_study(file: &[u8], h: Header, tally: &mut [u32], out: &mut [u8]) -> Sent
+    requires { ⌜ (4096 ≤ length (now out)) × (reportOpens (now file) ≡ success (headerValues h)) × Due (now file) (headerValues h) 0 (now tally) ⌝ }
+    ensures { λ r. ⌜ SentOf (reportLines (now (file .entry))) (r .lines) (r .whole) ⌝ }
+{
+    let mut i: usize = 0;
+    let mut more = true;
+    while more {
+        let line = study_line(file, h, i, tally, out);
+        let n = line.length;
+        if !write_line(file, i, &out[..n]) {
+            return Sent {
+                lines: i,
+                whole: false,
+            };
+        }
+        more = line.more;
+        i += 1;
+    }
+    Sent {
+        lines: i,
+        whole: true,
+    }
+}
+
+// Opens what was read; a study on standard input has at most 65,536 bytes.
+fn open_input(file: &[u8]) -> Opened
+    ensures { λ r. ⌜ opened r ≡ reportOpens (now (file .entry)) ⌝ }
+{
+    if 65536 < file.len() {
+        return Opened::Refused(Refusal::FileLength);
+    }
+    study::open_study(file)
+}
+
+// The report on a file that is refused: one line.
+fn report_refusal(file: &[u8], refusal: Refusal) -> Sent
+    requires { ⌜ reportOpens (now file) ≡ refused (numberOf refusal) ⌝ }
+    ensures { λ r. ⌜ SentOf (reportLines (now (file .entry))) (r .lines) (r .whole) ⌝ }
+{
+    let mut out = [0u8; 4096];
+    let n = lines::refused_line(answer::number(refusal) as u64, &mut out);
+    if !write_line(file, 0, &out[..n]) {
+        return Sent {
+            lines: 0,
+            whole: false,
+        };
+    }
+    Sent {
+        lines: 1,
+        whole: true,
+    }
+}
+
+// The report on a file.
+fn report(file: &[u8]) -> Sent
+    ensures { λ r. ⌜ SentOf (reportLines (now (file .entry))) (r .lines) (r .whole) ⌝ }
+{
+    match open_input(file) {
+        Opened::Refused(r) => report_refusal(file, r),
+        Opened::Study(h) => {
+            let mut tally = [0u32; 4228];
+            let mut out = [0u8; 4096];
+            tally::new(h.n1 as u32, h.n2 as u32, &mut tally);
+            report_study(file, h, &mut tally, &mut out)
+        }
+    }
+}
+
+fn main() {
+    let mut space = [0u8; 65537];
+    let n = io::read_full(STDIN_FILENO, &mut space);
+    report(&space[..n]);
+}
