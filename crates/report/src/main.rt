@@ -6,7 +6,6 @@ use answer::Written;
 use libc::STDIN_FILENO;
 use libc::STDOUT_FILENO;
 ghost use mathlib.Core.Path.{_≡_};
-ghost use mathlib.Core.Bool.{false};
 ghost use Prim.Native.Nat.{_≤_};
 ghost use lib.Dec.{T};
 ghost use lib.ListN.{length};
@@ -15,25 +14,13 @@ ghost use Rattle.answer.specs.Outcome.{success, refused, numberOf, headerValues
 ghost use Rattle.record.specs.Record.{isRecord};
 ghost use Rattle.tally.specs.Calls.{addOut};
 ghost use Rattle.tally.specs.Adds.{succeeds};
-ghost use Rattle.lines.specs.Text.{frontLine, refusedLine};
+ghost use Rattle.lines.specs.Text.{frontLine};
 ghost use Rattle.lines.specs.Report.{searched, roundLine, roundTally, reportOpens, reportLines, lineAt, Due, Next, SentOf};
 
 // A line in the buffer, and whether another follows.
 struct Line {
     length: usize,
     more: bool,
-}
-
-// The last line where something is refused.
-fn refuse(number: u32, out: &mut [u8]) -> Line
-    requires { ⌜ 4096 ≤ length (now out) ⌝ }
-    ensures told { λ r. ⌜ (r .length ≡ length (refusedLine number)) × (r .more ≡ false) ⌝ }
-    ensures slice { λ _. ⌜ now (out .exit) ≡ placed 0 (refusedLine number) (now (out .entry)) ⌝ }
-{
-    Line {
-        length: lines::refused_line(number as u64, out),
-        more: false,
-    }
 }
 
 // The line of a front, which is added to the tally.
@@ -56,7 +43,10 @@ fn round_line(file: &[u8], round: usize, tally: &mut [u32], out: &mut [u8]) -> L
 {
     let mut record = [0u8; 133];
     match search::search(file, round, &mut record) {
-        Written::Refused(r) => refuse(answer::number(r), out),
+        Written::Refused(r) => Line {
+            length: lines::refused_line(answer::number(r) as u64, out),
+            more: false,
+        },
         Written::Bytes(n) => Line {
             length: add_front(round, &record[..n], tally, out),
             more: true,
