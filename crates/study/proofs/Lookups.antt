@@ -49,24 +49,31 @@ module _ (f w : List ℕ) (o : openAnswer f ≡ success w) where
   open-rounds : badRounds f ≡ false
   open-rounds = tests (9, badRounds f) (Memᴰ·append-right (firstTests f ++ nextTests f) here)
 
-  -- the check of a round: the last test decides
-  last : (r : ℕ) (b : Bool) → badNumber f r ≡ b → checkAnswer f r ≡ cond b (refused 10) (success (0 ∷ []))
-  last r b e = outcome-passed (openTests f) ((10, badNumber f r) ∷ []) (openValues f) (0 ∷ []) opens ∙ ap (λ t. cond t (refused 10) (success (0 ∷ []))) e
+  -- one test behind those of opening decides
+  pub last : (n : ℕ) (t b : Bool) (v : List ℕ) → t ≡ b → outcome (openTests f ++ (n, t) ∷ []) v ≡ cond b (refused n) (success v)
+  last n t b v e = outcome-passed (openTests f) ((n, t) ∷ []) (openValues f) v opens ∙ ap (λ c. cond c (refused n) (success v)) e
 
   rounds-are : trailer f .rounds ≡ getD w 2 0
   rounds-are = ap (λ l. getD l 2 0) open-values
 
+  pub bad-number : (r : ℕ) → getD w 2 0 ≤ r → badNumber f r ≡ true
+  bad-number r h = ap (λ m. leb m r) rounds-are ∙ le-leb (getD w 2 0) r h
+
+  pub good-number : (r : ℕ) → r < getD w 2 0 → badNumber f r ≡ false
+  good-number r h = ap (λ m. leb m r) rounds-are ∙ lt-leb (getD w 2 0) r h
+
+  -- the check of a round
   pub check-ten : (r : ℕ) → getD w 2 0 ≤ r → checkAnswer f r ≡ refused 10
-  check-ten r h = last r true (ap (λ m. leb m r) rounds-are ∙ le-leb (getD w 2 0) r h)
+  check-ten r h = last 10 (badNumber f r) true (0 ∷ []) (bad-number r h)
 
   pub check-good : (r : ℕ) → r < getD w 2 0 → checkAnswer f r ≡ success (0 ∷ [])
-  check-good r h = last r false (ap (λ m. leb m r) rounds-are ∙ lt-leb (getD w 2 0) r h)
+  check-good r h = last 10 (badNumber f r) false (0 ∷ []) (good-number r h)
 
   -- the round's bytes, as the code finds them
-  size-is : roundSize (nodesOf f) ≡ getD w 5 0 + getD w 6 0
+  pub size-is : roundSize (nodesOf f) ≡ getD w 5 0 + getD w 6 0
   size-is = ap₂ _+_ (ap (λ l. getD l 5 0) open-values) (ap (λ l. getD l 6 0) open-values)
 
-  inside : (r n : ℕ) → r < trailer f .rounds → n ≡ roundSize (nodesOf f) → r * n + n ≤ trailer f .dm
+  pub inside : (r n : ℕ) → r < trailer f .rounds → n ≡ roundSize (nodesOf f) → r * n + n ≤ trailer f .dm
   inside r n h e =
       omega (arith, suc-mul r n, mul-le-mul-right n h, ap (λ k. trailer f .rounds * k) e, ltb-false (trailer f .dm) (trailer f .rounds * roundSize (nodesOf f)) open-rounds)
 

@@ -165,12 +165,20 @@ pub fn check_round(file: &[u8], round: usize) -> Done
     }
 }
 
+// Where a round of n bytes begins.
+pub fn round_start(file: &[u8], n: usize, round: usize) -> usize
+    requires { ⌜ round * n + n ≤ 16777216 ⌝ }
+    ensures { λ r. ⌜ r ≡ trailerAt (now (file .entry)) - trailer (now (file .entry)) .dm + round * n ⌝ }
+{
+    section_at(file, 28) + round * n
+}
+
 // The n bytes of a round, as far as the file has them.
 pub fn round_at(file: &[u8], n: usize, round: usize) -> &[u8]
     requires { ⌜ round * n + n ≤ 16777216 ⌝ }
     ensures { λ r. ⌜ now r ≡ partAt (trailerAt (now (file .entry)) - trailer (now (file .entry)) .dm + round * n) n (now (file .entry)) ⌝ }
 {
-    part(file, section_at(file, 28) + round * n, n)
+    part(file, round_start(file, n, round), n)
 }
 
 // Lookup: the round's bytes, a part of the caller's file; an empty part where the check refuses.

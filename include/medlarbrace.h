@@ -1,0 +1,127 @@
+/*
+ * Medlarbrace: fronts, tallies and reliability of a network whose stations are of two classes and
+ * fail in given orders. docs/USING.md walks through a study and explains the terms.
+ *
+ * Every call returns 0, or the number of a refusal, the lowest that applies (the list is below).
+ * A refused call has written nothing. A call that succeeds writes what its comment says: bytes and
+ * words of a slice past that stay as they were.
+ *
+ * What the caller must ensure. A slice is a pointer and a count of elements (bytes, or 32-bit
+ * words), and the pointer is valid, and aligned as its C type asks, for that count. A pointer may
+ * be null only where its count is 0; a pointer without a count (written, start, sum ..) is never
+ * null. What a call writes, slice or single value, overlaps nothing else that is lent to it; what
+ * it only reads may overlap, so both records of a join may be the same. Nobody changes what is lent
+ * while the call runs. Nothing is asked of the contents or of the numbers: any are judged.
+ *
+ * No call keeps a pointer, allocates, or has any state: calls from several threads may run at once.
+ */
+#ifndef MEDLARBRACE_H
+#define MEDLARBRACE_H
+
+#include <stddef.h>
+#include <stdint.h>
+
+#ifdef __cplusplus
+extern "C" {
+#endif
+
+/* Why a call refuses. */
+enum {
+    MEDLARBRACE_FILE_LENGTH = 1,    /* file length outside 32 to 16,777,216 */
+    MEDLARBRACE_COUNTS = 2,         /* nodes not 2 to 160, arcs above 1,024, rounds above 100,000; writer: odd arc bytes */
+    MEDLARBRACE_ENDS = 3,           /* source or target is no node, or both are the same */
+    MEDLARBRACE_SECTIONS = 4,       /* sections out of order, or too short */
+    MEDLARBRACE_NODE_CLASS = 5,     /* a node's class above 2 */
+    MEDLARBRACE_CLASS_SIZE = 6,     /* more than 64 nodes of class 1 or of class 2 */
+    MEDLARBRACE_END_CLASS = 7,      /* source or target not of class 0 */
+    MEDLARBRACE_ARC = 8,            /* an arc's end is no node, or both ends are the same */
+    MEDLARBRACE_ROUNDS_LENGTH = 9,  /* too few round bytes; writer: another number of them than rounds x (n1 + n2) */
+    MEDLARBRACE_ROUND_NUMBER = 10,  /* no such round */
+    MEDLARBRACE_ORDER = 11,         /* an order that is not each node of its class once */
+    MEDLARBRACE_NOT_RECORD = 12,    /* not a front record */
+    MEDLARBRACE_SIZES_DIFFER = 13,  /* two records of differing class sizes */
+    MEDLARBRACE_CHANCE = 14,        /* a chance above 1,000,000, or an age above 30 */
+    MEDLARBRACE_OUTPUT_SHORT = 15,  /* an output slice too short */
+    MEDLARBRACE_TALLY_SHORT = 21,   /* a tally slice too short */
+    MEDLARBRACE_TALLY_UNSOUND = 22, /* a tally that is not sound: no adds can have left it */
+    MEDLARBRACE_TALLY_SIZES = 23,   /* a tally of other class sizes than the record */
+    MEDLARBRACE_TALLY_FULL = 24,    /* a tally of 100,000 rounds already */
+    MEDLARBRACE_NO_ROUNDS = 25      /* a tally of no rounds where reliability is wanted */
+};
+
+/* Slices that suffice for any study. */
+#define MEDLARBRACE_HEADER_WORDS 7     /* of medlarbrace_open */
+#define MEDLARBRACE_RECORD_BYTES 133   /* 3 + 2 x 65 */
+#define MEDLARBRACE_TALLY_WORDS 4228   /* 3 + 65 x 65 */
+#define MEDLARBRACE_WEIGHTS_WORDS 65
+
+/* ---- study files */
+
+/* Tests a study file, all but its orders. header, 7 words: nodes N, arcs A, rounds M, source s,
+ * target t, class sizes n1 and n2.
+ * Refusals: 1 to 9; 15 where header_len is under 7. */
+uint32_t medlarbrace_open(const uint8_t *file, size_t file_len, uint32_t *header, size_t header_len);
+
+/* Where a round's bytes stand: `*count` bytes from `file + *start` on, class 1's order and then
+ * class 2's. They are within the file. Rounds are numbered from 0; orders are not tested.
+ * Refusals: 1 to 10. */
+uint32_t medlarbrace_round(const uint8_t *file, size_t file_len, uint64_t round, uint64_t *start, uint64_t *count);
+
+/* Searches a round: the record of its front into `record`, its length through `written`.
+ * A record is n1, n2, k and then k pairs of bytes, 3 + 2k bytes: 133 suffice.
+ * Refusals: 1 to 11, 15. */
+uint32_t medlarbrace_search(const uint8_t *file, size_t file_len, uint64_t round, uint8_t *record, size_t record_len, uint64_t *written);
+
+/* Writes a study file: node bytes (a class each), arc bytes (from and to, in pairs), round bytes
+ * (round_count rounds, one after another), and the trailer; all orders are tested. The length
+ * through `written`: nodes_len + arcs_len + rounds_len + 32.
+ * Refusals: 2, 3, 5 to 9, 11, 15. */
+uint32_t medlarbrace_write(const uint8_t *nodes, size_t nodes_len, const uint8_t *arcs, size_t arcs_len, const uint8_t *rounds, size_t rounds_len,
+                           uint64_t source, uint64_t target, uint64_t round_count, uint8_t *file, size_t file_len, uint64_t *written);
+
+/* ---- front records: left and right are whole records, with the lengths that were written */
+
+/* The record of two blocks in a row: it holds where both do. Length through `written`; 133 bytes
+ * suffice.
+ * Refusals: 12, 13, 15. */
+uint32_t medlarbrace_series(const uint8_t *left, size_t left_len, const uint8_t *right, size_t right_len, uint8_t *record, size_t record_len, uint64_t *written);
+
+/* The record of two blocks side by side: it holds where at least one does. As above.
+ * Refusals: 12, 13, 15. */
+uint32_t medlarbrace_parallel(const uint8_t *left, size_t left_len, const uint8_t *right, size_t right_len, uint8_t *record, size_t record_len, uint64_t *written);
+
+/* ---- tallies: n1, n2, M, and then (n1 + 1)(n2 + 1) cells, by l1 and within it by l2: in how many
+ * of the M fronts the network holds while l1 nodes of class 1 and l2 of class 2 work. The cell of
+ * (l1, l2) is tally[3 + l1 * (n2 + 1) + l2]; 4,228 words suffice for any sizes. */
+
+/* A tally of no rounds; the slice may have held anything.
+ * Refusals: 6, 21. */
+uint32_t medlarbrace_tally_new(uint32_t n1, uint32_t n2, uint32_t *tally, size_t tally_len);
+
+/* Adds a front: M grows by 1, and each cell where the front holds by 1.
+ * Refusals: 12, 21 to 24. */
+uint32_t medlarbrace_tally_add(const uint8_t *record, size_t record_len, uint32_t *tally, size_t tally_len);
+
+/* ---- chances, in millionths: that one node of the class works */
+
+/* The house table's chance for an age in years, 0 to 30, through `chance`.
+ * Refusals: 14. */
+uint32_t medlarbrace_ageing(uint64_t age, uint32_t *chance);
+
+/* The weights, in ten-millionths, of 0 to n working nodes among n of one chance: n + 1 words, which
+ * add up to 10,000,000.
+ * Refusals: 6, 14, 15. */
+uint32_t medlarbrace_weights(uint32_t n, uint32_t chance, uint32_t *weights, size_t weights_len);
+
+/* The reliability of a tally, with the chances of class 1 and class 2: through `reliability` R in
+ * ten-millionths, through `sum` S, the sum over cells of cell x weight x weight, and through
+ * `rounds` M. R is S / (M x 10,000,000), rounded down: never above the exact figure of the survival
+ * signature formula on these cells, and below it by less than n1 + n2 + 1 ten-millionths.
+ * Refusals: 14, 21, 22, 25. */
+uint32_t medlarbrace_reliability(const uint32_t *tally, size_t tally_len, uint32_t chance1, uint32_t chance2, uint64_t *sum, uint64_t *rounds, uint64_t *reliability);
+
+#ifdef __cplusplus
+}
+#endif
+
+#endif
