@@ -1,5 +1,5 @@
-// What the test programs share: numbers from a seed, bytes read and stored without a thought for
-// ends, comparison, where a record holds, and lines of output.
+// What the test programs share: numbers from a seed, bytes and words read and stored without a
+// thought for ends, comparison, where a record holds, and lines of output.
 use libc::STDOUT_FILENO;
 ghost use Prim.Native.Nat.{_≤_, _<_};
 
@@ -47,6 +47,53 @@ pub fn poke(bytes: &mut [u8], at: usize, value: u64) {
     if at < bytes.len() {
         bytes[at] = (value % 256) as u8;
     }
+}
+
+// The n bytes from a place on; none where they do not fit.
+pub fn part(bytes: &[u8], at: usize, n: usize) -> &[u8]
+    requires { ⌜ (at ≤ 1000000) × (n < 4294967296) ⌝ }
+{
+    if bytes.len() < at + n {
+        return &bytes[0..0];
+    }
+    &bytes[at..at + n]
+}
+
+fn wide_word(x: u32) -> u64
+    ensures { λ r. ⌜ r < 4294967296 ⌝ }
+{
+    x as u64
+}
+
+// The word at a place, and 0 past the end.
+pub fn word(words: &[u32], at: usize) -> u64
+    ensures { λ r. ⌜ r < 4294967296 ⌝ }
+{
+    if at < words.len() {
+        return wide_word(words[at]);
+    }
+    0
+}
+
+// Stores a word where the slice has that place.
+pub fn put(words: &mut [u32], at: usize, value: u64) {
+    if at < words.len() {
+        words[at] = (value % 4294967296) as u32;
+    }
+}
+
+// A product that fits.
+pub fn times(x: u64, y: u64) -> u64
+    requires { ⌜ (x < 4294967296) × (y ≤ 1000000) ⌝ }
+    ensures { λ r. ⌜ r ≤ 4294967296000000 ⌝ }
+{
+    x * y
+}
+
+pub fn flag(test: bool) -> u64
+    ensures { λ r. ⌜ r ≤ 1 ⌝ }
+{
+    if test { 1 } else { 0 }
 }
 
 pub fn equal(a: &[u8], b: &[u8]) -> bool {

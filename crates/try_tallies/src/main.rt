@@ -8,11 +8,11 @@ use answer::Rate;
 use answer::Rated;
 use libc::STDOUT_FILENO;
 use plain::PAST;
-use plain::put;
-use plain::word;
 use trial::line;
 use trial::pick;
 use trial::poke;
+use trial::put;
+use trial::word;
 ghost use Prim.Native.Nat.{_≤_, _<_};
 ghost use lib.ListN.{length};
 

@@ -1,35 +1,14 @@
 // A plain reading of document 01 for tallies, weights and reliability, cell by cell: no code is
 // shared with the library.
 use trial::byte;
+use trial::put;
 use trial::record_holds;
+use trial::word;
 ghost use Prim.Native.Nat.{_+_, _*_, _≤_, _<_};
 ghost use lib.ListN.{length};
 
 // A place that no slice has.
 pub(crate) const PAST: usize = 1000000;
-
-fn wide(x: u32) -> u64
-    ensures { λ r. ⌜ r < 4294967296 ⌝ }
-{
-    x as u64
-}
-
-// The word at a place, and 0 past the end.
-pub(crate) fn word(t: &[u32], at: usize) -> u64
-    ensures { λ r. ⌜ r < 4294967296 ⌝ }
-{
-    if at < t.len() {
-        return wide(t[at]);
-    }
-    0
-}
-
-// Stores a word where the slice has that place.
-pub(crate) fn put(t: &mut [u32], at: usize, x: u64) {
-    if at < t.len() {
-        t[at] = (x % 4294967296) as u32;
-    }
-}
 
 // Whether the words of b are the first of a.
 pub(crate) fn begins(a: &[u32], b: &[u32]) -> bool {
