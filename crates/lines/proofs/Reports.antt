@@ -1,12 +1,13 @@
 -- The lines of a report by their numbers: what each is, and whether another follows.
 use mathlib.Core.Path.{_≡_, refl, sym, ap, ap₂, _∙_}
 use mathlib.Core.Bool.{Bool, true, false, cond, false≢true}
-use mathlib.Core.List.{List, [], _∷_}
+use mathlib.Core.List.{List, [], _∷_, _++_, append-nil, append-assoc}
 use Prim.Native.Nat.{ℕ, zero, suc, _+_, _-_, _*_, _≤_, _<_, min}
 use native.Mathlib.Nat.{mul-le-mul, mul-le-mul-right, suc-mul, min-eq-left, min-eq-right}
 use native.Mathlib.Omega.{arith}
 use lib.Dec.{ltb, leb·suc-suc}
-use lib.ListN.{length, getD, replicate}
+use lib.ListN.{length, getD, take, replicate}
+use lib.Seq.{take-suc, take-length}
 use borrow.Author.Tests.{lt-ltb, le-ltb, ltb-true, ltb-false}
 use Rattle.answer.specs.Outcome.{Outcome, success, refused}
 use Rattle.answer.proofs.Outcomes.{refused-apart, outcome-success}
@@ -19,7 +20,21 @@ use Rattle.tally.specs.Adds.{succeeds, Tallies}
 use Rattle.tally.proofs.News.{new-done}
 use Rattle.tally.proofs.Runs.{new-tallies, add-tallies}
 use Rattle.lines.specs.Text.{sizesLine, countLine, refusedLine}
-use Rattle.lines.specs.Report.{either, row, countLines, tallied, searched, roundLine, roundTally, roundLines, roundsOf, freshFor, openLines, reportOpens, reportLines, lineAt, Due, Next}
+use Rattle.lines.specs.Report.{either, row, countLines, tallied, searched, roundLine, roundTally, roundLines, roundsOf, freshFor, openLines, reportOpens, reportLines, joined, reportText, lineAt, firstLines, Due, Next}
+
+-- ---- THE LINES IN THEIR ORDER ARE THE WHOLE TEXT
+joined-append : (a b : List (List ℕ)) → joined (a ++ b) ≡ joined a ++ joined b
+joined-append [] b = refl
+joined-append (l ∷ a) b = rw (joined-append a b, append-assoc l (joined a) (joined b))
+
+first-taken : (f : List ℕ) (n : ℕ) → n ≤ length (reportLines f) → firstLines f n ≡ joined (take n (reportLines f))
+first-taken f zero h = refl
+first-taken f (suc n) h =
+    let ls = reportLines f in
+    ap₂ _++_ (first-taken f n (omega arith)) (sym (append-nil (lineAt f n))) ∙ sym (joined-append (take n ls) (lineAt f n ∷ [])) ∙ ap joined (sym (take-suc ls n [] (omega arith)))
+
+pub whole-text : (f : List ℕ) → firstLines f (length (reportLines f)) ≡ reportText f
+whole-text f = first-taken f (length (reportLines f)) (omega arith) ∙ ap joined (take-length (reportLines f))
 
 -- ---- the counts
 count-lines : (k l : ℕ) (t : List ℕ) → length (countLines k l t) ≡ k

@@ -79,6 +79,11 @@ reportText f = joined (reportLines f)
 abbrev pub lineAt : List ℕ → ℕ → List ℕ
 lineAt f i = getD (reportLines f) i []
 
+-- the first n lines, one after another
+abbrev pub firstLines : List ℕ → ℕ → List ℕ
+firstLines f zero = []
+firstLines f (suc n) = firstLines f n ++ lineAt f n
+
 -- line i of an open study is due, with the tally t
 pub record Due (f v : List ℕ) (i : ℕ) (t : List ℕ) : Type 0 where
   -- there is such a line
