@@ -13,7 +13,7 @@ use Rattle.record.specs.Record.{size1, size2, listed, isRecord, recordHolds}
 use Rattle.compose.proofs.parallel.Reads as parallel-reads
 use Rattle.compose.proofs.series.Reads as series-reads
 use Rattle.parts.specs.Study.{Arc}
-use Rattle.study.specs.File.{studyOf}
+use Rattle.sections.specs.File.{studyOf}
 use Rattle.search.specs.Claims.{StudyPath, pathPair}
 use Rattle.plan.specs.Plan.{Plan, searched, series, parallel, PlanHolds, PlanSized}
 use Rattle.plan.specs.Calls.{SearchCall, lentTo, leftBy, JoinCall, lentToJoin, leftByJoin, Built}

@@ -6,7 +6,7 @@ use Prim.Native.Nat.{ℕ, _*_}
 use lib.ListN.{replicate}
 use Rattle.answer.specs.Outcome.{success, refused}
 use Rattle.slices.specs.Bytes.{wordAt}
-use Rattle.study.specs.File.{trailer}
+use Rattle.sections.specs.File.{trailer}
 use Rattle.study.specs.Calls.{badOrders, openAnswer, checkAnswer, lookupPart}
 use Rattle.writer.specs.Writer.{Given, given, studyBytes, writeAnswer}
 use Rattle.record.specs.Record.{isRecord, recordHolds}

@@ -16,7 +16,7 @@ use Rattle.answer.proofs.Outcomes.{outcome-refused, outcome-passed}
 use Rattle.record.specs.Record.{frontBytes}
 use Rattle.orders.specs.Order.{count, order1, order2, isRound}
 use Rattle.parts.specs.Study.{Arc, arcsFrom}
-use Rattle.study.specs.File.{trailer, nodesOf, arcsOf, roundsOf, roundOf, studyOf}
+use Rattle.sections.specs.File.{trailer, nodesOf, arcsOf, roundsOf, roundOf, studyOf}
 use Rattle.study.specs.Calls.{badOrders, openAnswer, checkTests, checkAnswer, whereGood, lookupPart}
 use Rattle.study.proofs.Trailers.{arcs-length}
 use Rattle.study.proofs.Lookups.{check-good, open-values, open-fits, study-within, study-round}

@@ -57,11 +57,11 @@ pub fn search(file: &[u8], round: usize, out: &mut [u8]) -> Written
             if h.rounds <= round {
                 return Written::Refused(Refusal::RoundNumber);
             }
-            let bytes = study::round_at(file, h.n1 + h.n2, round);
-            if !orders::is_round(study::node_bytes(file), bytes) {
+            let bytes = sections::round_at(file, h.n1 + h.n2, round);
+            if !orders::is_round(sections::node_bytes(file), bytes) {
                 return Written::Refused(Refusal::Order);
             }
-            let arcs = study::arc_bytes(file);
+            let arcs = sections::arc_bytes(file);
             let n1 = h.n1;
             let found = search_orders(arcs, &bytes[0..n1], &bytes[n1..], h.source, h.target);
             buffer::deliver(found, out)

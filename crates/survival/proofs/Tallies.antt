@@ -15,7 +15,7 @@ use Rattle.answer.specs.Outcome.{Outcome, success, refused, filled, done}
 use Rattle.answer.proofs.Outcomes.{outcome-tests}
 use Rattle.record.specs.Record.{recordHolds, size1 as recordSize1, size2 as recordSize2}
 use Rattle.chance.specs.Chance.{exact, sumE, Near}
-use Rattle.study.specs.File.{studyOf}
+use Rattle.sections.specs.File.{studyOf}
 use Rattle.network.specs.Round.{RoundHolds}
 use Rattle.search.proofs.Claims.{claims}
 use Rattle.plan.specs.Calls.{Searched}

@@ -8,7 +8,7 @@ use borrow.Author.Needs.{needs}
 use borrow.Author.Tests.{not-true, not-false}
 use Rattle.answer.specs.Outcome.{success, opened, headerValues}
 use Rattle.orders.specs.Order.{count, isRound}
-use Rattle.study.specs.File.{nodesOf}
+use Rattle.sections.specs.File.{nodesOf}
 use Rattle.study.specs.Calls.{openAnswer, lookupPart}
 use Rattle.study.proofs.Lookups.{check-ten, check-refused, open-values, sum-small, round-small, round-part, study-within}
 use Rattle.search.proofs.Searches.{search-refused, out-refused, round-short, round-long, search-eleven, search-orders, delivered}

@@ -1,10 +1,10 @@
--- `study::arc_bytes` is the part from T - dA on.
+-- `sections::arc_bytes` is the part from T - dA on.
 use mathlib.Core.Path.{ap, ap₂, _∙_}
 use Prim.Native.Nat.{_+_, _-_, _*_}
 use borrow.Author.Needs.{needs}
 use Rattle.slices.specs.Bytes.{partAt, wordAt}
-use Rattle.study.proofs.arc_bytes.Statement.{statement}
-use Rattle.study.proofs.arc_bytes.Tie as tie
+use Rattle.sections.proofs.arc_bytes.Statement.{statement}
+use Rattle.sections.proofs.arc_bytes.Tie as tie
 
 section-at-requires : tie.Need-section-at-requires
 section-at-requires c κs = search needs

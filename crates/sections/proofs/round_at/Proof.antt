@@ -1,9 +1,9 @@
--- `study::round_at` is the part from the round's start on.
+-- `sections::round_at` is the part from the round's start on.
 use mathlib.Core.Path.{ap, _∙_}
 use borrow.Author.Needs.{needs}
 use Rattle.slices.specs.Bytes.{partAt}
-use Rattle.study.proofs.round_at.Statement.{statement}
-use Rattle.study.proofs.round_at.Tie as tie
+use Rattle.sections.proofs.round_at.Statement.{statement}
+use Rattle.sections.proofs.round_at.Tie as tie
 
 round-start-requires : tie.Need-round-start-requires
 round-start-requires c κs = search needs

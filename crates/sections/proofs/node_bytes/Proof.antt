@@ -1,10 +1,10 @@
--- `study::node_bytes` is the part from T - dN on.
+-- `sections::node_bytes` is the part from T - dN on.
 use mathlib.Core.Path.{ap, ap₂, _∙_}
 use Prim.Native.Nat.{_-_}
 use borrow.Author.Needs.{needs}
 use Rattle.slices.specs.Bytes.{partAt, wordAt}
-use Rattle.study.proofs.node_bytes.Statement.{statement}
-use Rattle.study.proofs.node_bytes.Tie as tie
+use Rattle.sections.proofs.node_bytes.Statement.{statement}
+use Rattle.sections.proofs.node_bytes.Tie as tie
 
 section-at-requires : tie.Need-section-at-requires
 section-at-requires c κs = search needs
