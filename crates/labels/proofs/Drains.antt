@@ -7,9 +7,9 @@ use native.Mathlib.Omega.{arith}
 use lib.ListN.{length, getD, set, length-set}
 use lib.Seq.{getD-set-same, getD-set-other}
 use Rattle.laws.specs.Tests.{order, equal}
-use Rattle.labels.specs.Labels.{Held, held-lower, held-t, pair-first}
-use Rattle.labels.specs.State.{Graph, Chains, to, net, low, Quiet, Ripe, Why, quiet, piled, waits, left, Named, Work, Kept, Next, Still, Room, Lengths, start}
-use Rattle.labels.proofs.Spreads.{low-less}
+use Rattle.relax.specs.Labels.{Held, held-lower, held-t, pair-first}
+use Rattle.relax.specs.State.{Graph, Chains, to, net, low, Quiet, Ripe, Why, quiet, piled, waits, left, Named, Work, Kept, Next, Still, Room, Lengths, start}
+use Rattle.relax.proofs.Spreads.{low-less}
 
 -- ---- the same labels with another stack
 module _ {f : Graph} {a l : ℕ} {d stack wait : List ℕ} {top v i : ℕ} (w : Work f a l d stack wait top v i) where

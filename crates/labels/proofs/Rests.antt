@@ -10,9 +10,9 @@ use Rattle.laws.specs.Tests.{order}
 use Rattle.front.specs.Front.{holds}
 use Rattle.parts.specs.Study.{Arc}
 use Rattle.network.specs.Walk.{pathPairs}
-use Rattle.labels.specs.Labels.{calm-hold}
-use Rattle.labels.specs.State.{Graph, Laid, net, to, Still, start}
-use Rattle.labels.proofs.Arcs.{arcs-out}
+use Rattle.relax.specs.Labels.{calm-hold}
+use Rattle.relax.specs.State.{Graph, Laid, net, to, Still, start}
+use Rattle.relax.proofs.Arcs.{arcs-out}
 
 pub at-rest : {f : Graph} {a : ℕ} {d wait : List ℕ} → Still f a d wait → a ≤ f .n1 → (b : ℕ) → T (holds (pathPairs (net f)) a b) ↔ (b < getD d (f .source) 0)
 at-rest {f} {a} {d} s h =

@@ -17,7 +17,7 @@ use Rattle.record.specs.Record.{size1, size2, listed, frontBytes}
 use Rattle.buffer.specs.Buffer.{longest, recordIn, Puttable}
 use Rattle.buffer.proofs.Collects.{Collects, collects-puttable, collects-more, collects-all}
 use Rattle.network.specs.Walk.{pathPairs}
-use Rattle.labels.specs.State.{Graph, net}
+use Rattle.relax.specs.State.{Graph, net}
 use Rattle.sweep.specs.Sweep.{whole, below}
 
 -- what holds after more failures holds after fewer

@@ -16,7 +16,7 @@ use Rattle.record.specs.Record.{size1, size2, listed, frontBytes}
 use Rattle.buffer.specs.Buffer.{longest, recordIn, Puttable}
 use Rattle.buffer.proofs.Collects.{Collects, collects-none}
 use Rattle.network.specs.Walk.{pathPairs}
-use Rattle.labels.specs.State.{Graph, Laid, Chains, Work, Still, Room, Lengths, net, start}
+use Rattle.relax.specs.State.{Graph, Laid, Chains, Work, Still, Room, Lengths, net, start}
 use Rattle.labels.proofs.Drains.{skipped, entered, first-in}
 use Rattle.labels.proofs.Rests.{at-rest, at-first}
 use Rattle.sweep.specs.Sweep.{whole, below, ByOrder, NextIn}

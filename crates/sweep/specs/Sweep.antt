@@ -7,8 +7,8 @@ use lib.Dec.{ltb}
 use lib.ListN.{length, getD}
 use Rattle.front.specs.Front.{holds, AllWithin}
 use Rattle.network.specs.Walk.{pathPairs}
-use Rattle.labels.specs.declared.Step.{Step}
-use Rattle.labels.specs.State.{Graph, graphOf, net, Laid, Chains, start}
+use Rattle.relax.specs.declared.Step.{Step}
+use Rattle.relax.specs.State.{Graph, graphOf, net, Laid, Chains, start}
 
 -- where the network holds, and what of it lies below x failures of class 1
 abbrev pub whole : Graph → ℕ → ℕ → Bool

@@ -3,7 +3,7 @@ use buffer::LONGEST;
 use front::Pair;
 use front::Pos1;
 use front::Pos2;
-use labels::Step;
+use relax::Step;
 use slices::wide;
 ghost use mathlib.Core.Path.{_≡_};
 ghost use mathlib.Core.List.{[], _∷_, _++_};
@@ -12,7 +12,7 @@ ghost use lib.ListN.{length, getD};
 ghost use Rattle.record.specs.Record.{size1, size2, listed, frontBytes};
 ghost use Rattle.buffer.specs.Buffer.{longest, recordIn, Puttable};
 ghost use Rattle.network.specs.Walk.{pathPairs};
-ghost use Rattle.labels.specs.State.{graphOf, net};
+ghost use Rattle.relax.specs.State.{graphOf, net};
 ghost use Rattle.sweep.specs.Sweep.{Sweepable, NextIn};
 
 // Puts the pair, where its p2 is above the last.
@@ -68,7 +68,7 @@ pub fn sweep(
     let mut node = begin.node;
     let mut last = Pos2(0);
     loop {
-        let at = labels::step_to(begin, Pos1(x), Pos2(label[wide(node)]), node, 0);
+        let at = relax::step_to(begin, Pos1(x), Pos2(label[wide(node)]), node, 0);
         labels::flood(
             arcs,
             entry,

@@ -1,11 +1,11 @@
--- `labels::link` puts one place after another at the head of its chain.
+-- `relax::link` puts one place after another at the head of its chain.
 use mathlib.Core.Path.{refl}
 use Prim.Native.Nat.{_-_}
 use native.Mathlib.Omega.{arith}
 use borrow.Author.Needs.{needs}
-use Rattle.labels.proofs.Links.{Linking, unlinked, node, link-again, done}
-use Rattle.labels.proofs.link.Statement.{statement}
-use Rattle.labels.proofs.link.Tie as tie
+use Rattle.relax.proofs.Links.{Linking, unlinked, node, link-again, done}
+use Rattle.relax.proofs.link.Statement.{statement}
+use Rattle.relax.proofs.link.Tie as tie
 
 abbrev Inv-loop : tie.InvT-loop
 Inv-loop arcs first₀ more₀ n i₀ first more i = Linking arcs first₀ more₀ first more n i

@@ -7,7 +7,7 @@ use native.Mathlib.Omega.{arith}
 use lib.ListN.{length, getD, set, length-set}
 use lib.Seq.{getD-set-same, getD-set-other}
 use Rattle.laws.specs.Tests.{order, equal}
-use Rattle.labels.specs.State.{Chains, to}
+use Rattle.relax.specs.State.{Chains, to}
 
 pub unlinked : (arcs first more : List ℕ) → ((v : ℕ) → getD first v 0 ≡ 0) → Chains arcs first more 0
 unlinked arcs first more z =

@@ -6,8 +6,8 @@ use lib.ListN.{length, getD}
 use Rattle.front.specs.Pair.{pairOf}
 use Rattle.parts.specs.Study.{arcsFrom}
 use Rattle.network.specs.Walk.{Network}
-use Rattle.labels.specs.declared.Step.{Step}
-use Rattle.labels.specs.Labels.{Held}
+use Rattle.relax.specs.declared.Step.{Step}
+use Rattle.relax.specs.Labels.{Held}
 
 -- all that stays as it is during a search: arc bytes, each node's class 1 and class 2 capacity, the ends, the class sizes
 pub record Graph : Type 0 where

@@ -1,14 +1,14 @@
--- `labels::spread` follows the chain of the node at work, each arc a turn of one of four kinds.
+-- `relax::spread` follows the chain of the node at work, each arc a turn of one of four kinds.
 use mathlib.Core.Path.{refl, sym, _∙_}
 use Prim.Native.Nat.{_-_, _≤_, _<_}
 use native.Mathlib.Omega.{arith}
 use lib.ListN.{getD}
 use borrow.Author.Tests.{leb-true, leb-false, not-true, not-false}
 use borrow.Author.Needs.{needs}
-use Rattle.labels.specs.State.{graphOf}
-use Rattle.labels.proofs.Spreads.{Spreading, Turn, place, at-node, falls, node-in, level-in, passed, again-waits, again-shut, space, again-pushed, idle}
-use Rattle.labels.proofs.spread.Statement.{statement}
-use Rattle.labels.proofs.spread.Tie as tie
+use Rattle.relax.specs.State.{graphOf}
+use Rattle.relax.proofs.Spreads.{Spreading, Turn, place, at-node, falls, node-in, level-in, passed, again-waits, again-shut, space, again-pushed, idle}
+use Rattle.relax.proofs.spread.Statement.{statement}
+use Rattle.relax.proofs.spread.Tie as tie
 
 abbrev Inv-loop : tie.InvT-loop
 Inv-loop arcs entry cap first more at label₀ stack₀ wait₀ top₀ i₀ label stack wait top i = Spreading (graphOf arcs entry cap at) first more (at .x .0 - 1) (at .level .0) label₀ stack₀ wait₀ top₀ label stack wait top (at .node) i

@@ -8,9 +8,9 @@ use lib.ListN.{length, getD, set, length-set}
 use lib.Seq.{getD-set-same, getD-set-other}
 use Rattle.laws.specs.Tests.{order, equal}
 use Rattle.laws.specs.Members.{_∈_}
-use Rattle.labels.specs.Labels.{Held, held-raise}
-use Rattle.labels.specs.State.{Graph, Chains, from, to, net, low, Quiet, Ripe, Why, quiet, piled, waits, left, Marked, Work, Kept}
-use Rattle.labels.proofs.Arcs.{arcs-in}
+use Rattle.relax.specs.Labels.{Held, held-raise}
+use Rattle.relax.specs.State.{Graph, Chains, from, to, net, low, Quiet, Ripe, Why, quiet, piled, waits, left, Marked, Work, Kept}
+use Rattle.relax.proofs.Arcs.{arcs-in}
 
 -- ---- the count of low labels
 low-set : (l u y : ℕ) (d : List ℕ) → u < length d → getD d u 0 < l → l ≤ y → low l (set d u y) + 1 ≡ low l d
