@@ -1,23 +1,29 @@
 -- DEMAND 3, by induction over plans.
-use mathlib.Core.Path.{_≡_, refl, sym, ap, subst}
+use mathlib.Core.Path.{_≡_, refl, sym, ap, subst, _∙_}
 use mathlib.Core.Logic.{_↔_, ⊎-map}
 use mathlib.Core.List.{List}
-use Prim.Native.Nat.{ℕ, _≤_}
+use Prim.Native.Nat.{ℕ, _+_, _≤_, min}
 use native.Mathlib.Omega.{arith}
 use lib.Dec.{T, eqb}
+use lib.ListN.{length}
 use borrow.Author.Tests.{eqb-true}
+use Rattle.laws.specs.Members.{_∈_}
 use Rattle.laws.specs.Tests.{T-true, T-ext, T-and, T-or}
-use Rattle.record.specs.Record.{size1, size2, isRecord, recordHolds}
+use Rattle.front.specs.declared.Pair.{Pair}
+use Rattle.front.specs.Front.{AtMost}
+use Rattle.record.specs.Record.{size1, size2, listed, isRecord, recordHolds}
 use Rattle.record.proofs.Bytes.{listed-length}
 use Rattle.record.proofs.Records.{record-is, record-few}
 use Rattle.compose.specs.Compose.{seriesBytes, parallelBytes, Joinable}
 use Rattle.compose.specs.Laws.{Sized, Laws}
 use Rattle.compose.proofs.Algebra.{laws}
+use Rattle.parts.specs.Study.{Arc}
+use Rattle.sections.specs.File.{studyOf}
+use Rattle.search.specs.Claims.{StudyPath, pathPair}
 use Rattle.search.proofs.Claims.{claims}
 use Rattle.plan.specs.Plan.{Plan, searched, series, parallel, PlanHolds, PlanSized}
 use Rattle.plan.specs.Calls.{Searched, Built}
-use Rattle.plan.specs.Claims.{Demand}
-use Rattle.plan.proofs.Told.{search-wrote, search-passed, search-kept, series-wrote, series-kept, parallel-wrote, parallel-kept}
+use Rattle.plan.proofs.Told.{search-wrote, search-passed, series-wrote, parallel-wrote}
 
 -- what is known of a plan's record
 pub record Sound (p : Plan) (x : List ℕ) : Type 0 where
@@ -81,7 +87,7 @@ module _ {p q : Plan} {y z : List ℕ} (sp : Sound p y) (sq : Sound q z) (j : Jo
       }
 
 -- ---- every plan
-sound : (p : Plan) (x : List ℕ) → Built p x → Sound p x
+pub sound : (p : Plan) (x : List ℕ) → Built p x → Sound p x
 sound (searched f r) x s = round-sound f r x s
 sound (series p q) x b =
     let e = series-wrote (b .0) (b .1) x (b .4) in
@@ -90,34 +96,34 @@ sound (parallel p q) x b =
     let e = parallel-wrote (b .0) (b .1) x (b .4) in
     subst (Sound (parallel p q)) (sym (e .0)) (parallel-sound (sound p (b .0) (b .2)) (sound q (b .1) (b .3)) (e .1))
 
-module _ (p q : Plan) (x y : List ℕ) (sp : Sound p x) (sq : Sound q y) (e1 : size1 x ≡ size1 y) (e2 : size2 x ≡ size2 y) where
-  same-fronts : (x ≡ y) ↔ ((a b : ℕ) → a ≤ size1 x → b ≤ size2 x → PlanHolds p a b ↔ PlanHolds q a b)
-  same-fronts =
-      let sx : Sized (size1 x) (size2 x) x = record { is = sp .is; one = refl; two = refl } in
-      let sy : Sized (size1 x) (size2 x) y = record { is = sq .is; one = sym e1; two = sym e2 } in
-      let law = laws sx sy sy .equal in (
-        λ e a b h k.
-            let i = sp .holds a b h k in
-            let o = sq .holds a b (omega arith) (omega arith) in
-            let t = ap (λ v. recordHolds v a b) e in
-            (λ u. o .0 (subst T t (i .1 u)), λ u. i .0 (subst T (sym t) (o .1 u))),
-        λ c. law .1 (λ a b h k.
-            let i = sp .holds a b h k in
-            let o = sq .holds a b (omega arith) (omega arith) in
-            T-ext (recordHolds x a b) (recordHolds y a b) (λ t. o .1 (c a b h k .0 (i .0 t)), λ t. i .1 (c a b h k .1 (o .0 t)))),
-      )
+-- a plan has one pair of class sizes
+pub one-size : (p : Plan) (m n i j : ℕ) → PlanSized p m n → PlanSized p i j → (m ≡ i) × (n ≡ j)
+one-size (searched f r) m n i j s t = (sym (s .0) ∙ t .0, sym (s .1) ∙ t .1)
+one-size (series p q) m n i j s t = one-size p m n i j (s .0) (t .0)
+one-size (parallel p q) m n i j s t = one-size p m n i j (s .0) (t .0)
 
--- THE THEOREM
-pub demand : Demand
-demand =
-    record {
-      is-record = λ p x b. sound p x b .is;
-      holds = λ p x b. sound p x b .holds;
-      equal = λ p q x y b c. same-fronts p q x y (sound p x b) (sound q y c);
-      route = λ f r x s. rw (search-wrote f r x s) (claims f r (search-passed f r x s) .route);
-      short = λ p x b. let r = record-is x .0 (sound p x b .is) in omega (arith, record-few x r, listed-length x (r .long));
-      sized = λ p x b. sound p x b .sized;
-      search-refused = search-kept;
-      series-refused = series-kept;
-      parallel-refused = parallel-kept;
-    }
+-- ---- DEMAND 3
+module _ (p : Plan) (x : List ℕ) (n1 n2 : ℕ) (b : Built p x) (s : PlanSized p n1 n2) where
+  pub sized : Sized n1 n2 x
+  sized = let e = one-size p (size1 x) (size2 x) n1 n2 (sound p x b .sized) s in record { is = sound p x b .is; one = e .0; two = e .1 }
+
+  pub holds : (i j : ℕ) → i ≤ n1 → j ≤ n2 → T (recordHolds x i j) ↔ PlanHolds p i j
+  holds i j h k = sound p x b .holds i j (omega (arith, sized .one)) (omega (arith, sized .two))
+
+  pub short : length (listed x) ≤ min n1 n2 + 1
+  short = let r = record-is x .0 (sized .is) in rw (← sized .one, ← sized .two) (omega (arith, record-few x r, listed-length x (r .long)))
+
+pub equal : (p q : Plan) (x y : List ℕ) (n1 n2 : ℕ) → Built p x → Built q y → PlanSized p n1 n2 → PlanSized q n1 n2
+    → (x ≡ y) ↔ ((a b : ℕ) → a ≤ n1 → b ≤ n2 → PlanHolds p a b ↔ PlanHolds q a b)
+equal p q x y n1 n2 b c s t =
+    let i = holds p x n1 n2 b s in
+    let o = holds q y n1 n2 c t in
+    let sy = sized q y n1 n2 c t in (
+      λ e a b h k. let u = ap (λ v. recordHolds v a b) e in (λ v. o a b h k .0 (subst T u (i a b h k .1 v)), λ v. i a b h k .0 (subst T (sym u) (o a b h k .1 v))),
+      λ g. laws (sized p x n1 n2 b s) sy sy .equal .1
+          (λ a b h k. T-ext (recordHolds x a b) (recordHolds y a b) (λ v. o a b h k .1 (g a b h k .0 (i a b h k .0 v)), λ v. i a b h k .1 (g a b h k .1 (o a b h k .0 v)))),
+    )
+
+pub route : (f : List ℕ) (r : ℕ) (x : List ℕ) → Built (searched f r) x
+    → (ks : List Arc) → StudyPath (studyOf f) ks → (q : Pair) × (q ∈ listed x) × AtMost (pathPair (studyOf f) r ks) q
+route f r x s = rw (search-wrote f r x s) (claims f r (search-passed f r x s) .route)

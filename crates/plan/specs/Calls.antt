@@ -1,84 +1,61 @@
--- Calls that were made: each kept its own promise, as its contract states it.
+-- Calls that were made one after another, refused ones in between: what a call handed on, and plans that were built.
 use mathlib.Core.Path.{_≡_}
-use mathlib.Core.List.{List}
+use mathlib.Core.List.{List, [], _∷_}
 use Prim.Native.Nat.{ℕ}
 use lib.ListN.{take}
-use contract.Lifetimes.{Lfts}
-use denote.Triple.Clauses.{AtExit}
-use borrow.Fn.Kinds.{PK, RK, Dens, Out, resT, endedOf}
-use Rattle.answer.specs.declared.Written.the-variants as written-as
-use Rattle.compose.proofs.series.Kinds as join-kinds
-use Rattle.compose.proofs.parallel.Reads as parallel-reads
-use Rattle.compose.proofs.series.Reads as series-reads
-use Rattle.search.proofs.search.Kinds as search-kinds
-use Rattle.search.proofs.search.Reads as search-reads
+use Rattle.answer.specs.Outcome.{Outcome, success, refused}
+use Rattle.kinds.specs.Kinds as call
 use Rattle.plan.specs.Plan.{Plan, searched, series, parallel}
 
--- a call: its arguments, its result, its parameters at the return, and that these are as promised
-pub record Call (n : ℕ) (ps : List (PK n)) (r : RK n) (promise : Out n ps r) : Type 0 where
-  pub lifetimes : Lfts n
-  pub args : Dens lifetimes ps
-  pub result : resT r lifetimes .Denot
-  pub exit : AtExit (endedOf n ps r) lifetimes
-  pub kept : promise lifetimes args result exit
+-- A CALL IN VAIN: it was lent the slice s, was refused, and left u
+pub data Vain : List ℕ → List ℕ → Type 0 where
+  search : (c : call.SearchCall) (n : ℕ) → call.searchResult c ≡ refused n → Vain (call.searchLent c) (call.searchLeft c)
+  row : (c : call.SeriesCall) (n : ℕ) → call.seriesResult c ≡ refused n → Vain (call.seriesLent c) (call.seriesLeft c)
+  side : (c : call.ParallelCall) (n : ℕ) → call.parallelResult c ≡ refused n → Vain (call.parallelLent c) (call.parallelLeft c)
+  fresh : (c : call.NewCall) (n : ℕ) → call.newResult c ≡ refused n → Vain (call.newLent c) (call.newLeft c)
+  add : (c : call.AddCall) (n : ℕ) → call.addResult c ≡ refused n → Vain (call.addLent c) (call.addLeft c)
+  weigh : (c : call.WeightsCall) (n : ℕ) → call.weightsResult c ≡ refused n → Vain (call.weightsLent c) (call.weightsLeft c)
+  write : (c : call.WriteCall) (n : ℕ) → call.writeResult c ≡ refused n → Vain (call.writeLent c) (call.writeLeft c)
 
-abbrev pub SearchCall : Type 0
-SearchCall = Call 2 search-kinds.ps search-kinds.r search-reads.Learnt
+-- A SLICE THROUGH CALLS IN VAIN, any number of them: it was s, each call was lent it as the one before left it, and now it is u
+pub data Through : List ℕ → List ℕ → Type 0 where
+  none : {s : List ℕ} → Through s s
+  next : {s u w : List ℕ} → Vain s u → Through u w → Through s w
 
--- its file, its round number, and its output slice as it was lent and as it was left
-abbrev pub fileOf : SearchCall → List ℕ
-fileOf c = c .args .0 .now
+-- a call succeeded and left a slice, which calls in vain may have been lent since; x is what the call wrote, as the slice has it now
+pub record Handed (answer : Outcome) (left x : List ℕ) : Type 0 where
+  pub size : ℕ
+  pub success-is : answer ≡ success (size ∷ [])
+  pub slice : List ℕ
+  pub through : Through left slice
+  pub part-is : x ≡ take size slice
 
-abbrev pub roundOf : SearchCall → ℕ
-roundOf c = c .args .1 .0
-
-abbrev pub lentTo : SearchCall → List ℕ
-lentTo c = c .args .1 .1 .0 .now
-
-abbrev pub leftBy : SearchCall → List ℕ
-leftBy c = c .exit .1 .1 .0 .now
-
--- series and parallel have parameters of the same kinds
-abbrev pub JoinPromise : Type 1
-JoinPromise = Out 3 join-kinds.ps join-kinds.r
-
-abbrev pub JoinCall : JoinPromise → Type 0
-JoinCall promise = Call 3 join-kinds.ps join-kinds.r promise
-
-module _ {promise : JoinPromise} where
-  -- its two records, and its output slice as it was lent and as it was left
-  abbrev pub firstOf : JoinCall promise → List ℕ
-  firstOf c = c .args .0 .now
-
-  abbrev pub secondOf : JoinCall promise → List ℕ
-  secondOf c = c .args .1 .0 .now
-
-  abbrev pub lentToJoin : JoinCall promise → List ℕ
-  lentToJoin c = c .args .1 .1 .0 .now
-
-  abbrev pub leftByJoin : JoinCall promise → List ℕ
-  leftByJoin c = c .exit .1 .1 .0 .now
-
--- THE SEARCH of round r of file f succeeded, and hands on x: what the output slice, which held anything before, begins with
+-- SEARCH of round r of the file f handed on x
 pub record Searched (f : List ℕ) (r : ℕ) (x : List ℕ) : Type 0 where
-  pub call : SearchCall
-  pub bytes : ℕ
-  pub file-is : fileOf call ≡ f
-  pub round-is : roundOf call ≡ r
-  pub answer-is : call .result ≡ written-as.Bytes bytes
-  pub record-is : x ≡ take bytes (leftBy call)
+  pub made : call.SearchCall
+  pub file-is : call.searchFile made ≡ f
+  pub round-is : call.searchRound made ≡ r
+  pub handed : Handed (call.searchResult made) (call.searchLeft made) x
 
--- SERIES OR PARALLEL, by its promise, of the records y and z succeeded, and hands on x
-pub record Joined (promise : JoinPromise) (y z x : List ℕ) : Type 0 where
-  pub call : JoinCall promise
-  pub bytes : ℕ
-  pub first-is : firstOf call ≡ y
-  pub second-is : secondOf call ≡ z
-  pub answer-is : call .result ≡ written-as.Bytes bytes
-  pub record-is : x ≡ take bytes (leftByJoin call)
+-- SERIES (01: row) and PARALLEL (01: side) of the records y and z handed on x
+pub record Row (y z x : List ℕ) : Type 0 where
+  pub made : call.SeriesCall
+  pub first-is : call.seriesFirst made ≡ y
+  pub second-is : call.seriesSecond made ≡ z
+  pub handed : Handed (call.seriesResult made) (call.seriesLeft made) x
 
--- A PLAN BUILT from its parts up, every call successful; x is its record
+pub record Side (y z x : List ℕ) : Type 0 where
+  pub made : call.ParallelCall
+  pub first-is : call.parallelFirst made ≡ y
+  pub second-is : call.parallelSecond made ≡ z
+  pub handed : Handed (call.parallelResult made) (call.parallelLeft made) x
+
+-- A PLAN BUILT from its parts up, each call of its own successful; x is its front record
 abbrev pub Built : Plan → List ℕ → Type 0
 Built (searched f r) x = Searched f r x
-Built (series p q) x = (y : List ℕ) × (z : List ℕ) × Built p y × Built q z × Joined series-reads.Learnt y z x
-Built (parallel p q) x = (y : List ℕ) × (z : List ℕ) × Built p y × Built q z × Joined parallel-reads.Learnt y z x
+Built (series p q) x = (y : List ℕ) × (z : List ℕ) × Built p y × Built q z × Row y z x
+Built (parallel p q) x = (y : List ℕ) × (z : List ℕ) × Built p y × Built q z × Side y z x
+
+-- two plans have the same front, however they were built
+abbrev pub SameFront : Plan → Plan → Type 0
+SameFront p q = (x y : List ℕ) → Built p x → Built q y → x ≡ y

@@ -1,33 +1,33 @@
--- DEMAND 2 of tallies and reliability, by induction over the rounds added.
+-- DEMAND 2 of tallies and reliability, by induction over the adds.
 use mathlib.Core.Path.{_≡_, refl, sym, ap, subst, _∙_}
 use mathlib.Core.Logic.{_↔_, _⊎_, inl, inr, ⊎-elim}
 use mathlib.Core.Bool.{Bool, true, false, cond, not}
-use mathlib.Core.List.{List, [], _∷_, _++_}
+use mathlib.Core.List.{List, [], _∷_, _++_, List·Memᴰ·head, List·Memᴰ·tail}
 use Prim.Native.Nat.{ℕ, suc, _+_, _-_, _*_, _≤_}
 use native.Mathlib.Omega.{arith}
+use borrow.Author.Tests.{eqb-true, not-false}
 use lib.Dec.{T, eqb}
 use lib.ListN.{length, length-append}
-use borrow.Author.Tests.{eqb-true, not-false}
-use Rattle.laws.specs.Tests.{and-both}
-use Rattle.laws.specs.Members.{here, there}
+use Rattle.laws.specs.Members.{_∈_, here, there}
 use Rattle.laws.specs.Sums.{sumTo, sum-same}
-use Rattle.answer.specs.Outcome.{Outcome, success, refused, filled, done}
+use Rattle.laws.specs.Tests.{and-both}
+use Rattle.answer.specs.Outcome.{success}
 use Rattle.answer.proofs.Outcomes.{outcome-tests}
-use Rattle.record.specs.Record.{recordHolds, size1 as recordSize1, size2 as recordSize2}
+use Rattle.record.specs.Record.{size1 as recordSize1, size2 as recordSize2, recordHolds}
 use Rattle.chance.specs.Chance.{exact, sumE, Near}
 use Rattle.sections.specs.File.{studyOf}
-use Rattle.network.specs.Round.{RoundHolds}
+use Rattle.network.specs.Round.{size1 as studySize1, size2 as studySize2, RoundHolds}
 use Rattle.search.proofs.Claims.{claims}
 use Rattle.plan.specs.Calls.{Searched}
-use Rattle.plan.proofs.Told.{search-wrote, search-passed}
-use Rattle.soundness.specs.Tally.{size1, size2, cell}
-use Rattle.tally.specs.Cells.{tallyOf}
-use Rattle.tally.specs.Calls.{newAnswer, newOut, sameSizes, addTests, addAnswer, addOut, added}
+use Rattle.plan.proofs.Told.{through-same, search-wrote, search-passed}
+use Rattle.soundness.specs.Tally.{size1, size2, rounds, cell, Sound}
+use Rattle.tally.specs.Calls.{newAnswer, newOut, sameSizes, addTests, addAnswer, addOut}
 use Rattle.tally.specs.Adds.{succeeds, holding, Tallies}
 use Rattle.tally.proofs.Runs.{new-tallies, add-tallies, holding-snoc}
-use Rattle.reliability.proofs.Answers.{near}
-use Rattle.survival.specs.Calls.{NewCall, AddCall, Begun, Added, Tallied}
-use Rattle.survival.specs.Claims.{Count, HoldsWith, Survival}
+use Rattle.reliability.proofs.Answers as answers
+use Rattle.kinds.specs.Kinds as call
+use Rattle.survival.specs.Calls.{Begun, Added, Tallied, AllSearched, Rating}
+use Rattle.survival.specs.Counts.{Count, HoldsWith}
 
 -- a count is one number
 count-one : {A : Type 0} (P : A → Type 0) (xs : List A) (m n : ℕ) → Count P xs m → Count P xs n → m ≡ n
@@ -37,63 +37,84 @@ count-one P (x ∷ xs) m n c d =
     (λ a. ⊎-elim (λ b. a .1 .1 ∙ ap suc (count-one P xs (a .1 .0) (b .1 .0) (a .1 .2) (b .1 .2)) ∙ sym (b .1 .1)) (λ b. absurd (b .0 (a .0))) d)
     (λ a. ⊎-elim (λ b. absurd (a .0 (b .0))) (λ b. count-one P xs m n (a .1) (b .1)) d) c
 
--- ---- the calls
-from-new : (a b n1 n2 : ℕ) (s t : List ℕ) → a ≡ n1 → b ≡ n2 → newAnswer a b (length s) ≡ success (0 ∷ []) → t ≡ newOut a b s → Tallies s t n1 n2 []
-from-new a b n1 n2 s t e f h l = rw (l, ← e, ← f) (new-tallies a b s h)
-
-begun : {n1 n2 : ℕ} {t : List ℕ} → Begun n1 n2 t → (s : List ℕ) × Tallies s t n1 n2 []
-begun {n1} {n2} {t} b =
-    let c = b .call in
-    (c .args .1 .1 .0 .now, from-new (c .args .0) (c .args .1 .0) n1 n2 (c .args .1 .1 .0 .now) t (b .first-is) (b .second-is) (sym (c .kept .0) ∙ b .answer-is) (b .left-is ∙ c .kept .1))
-
-module _ {x t u : List ℕ} (a : Added x t u) where
-  answered : addAnswer x t ≡ success (0 ∷ [])
-  answered = rw (← a .record-is, ← a .tally-is) (sym (a .call .kept .0) ∙ a .answer-is)
-
-  left : u ≡ addOut x t
-  left = rw (← a .record-is, ← a .tally-is) (a .left-is ∙ a .call .kept .1)
-
-  sizes : (recordSize1 x ≡ size1 t) × (recordSize2 x ≡ size2 t)
-  sizes =
-      let e = not-false (sameSizes x t) (outcome-tests (addTests x t) (0 ∷ []) answered (23, not (sameSizes x t)) (there (there (there here)))) in
-      let k = and-both (eqb (recordSize1 x) (size1 t)) (eqb (recordSize2 x) (size2 t)) e in
-      (eqb-true (recordSize1 x) (size1 t) (k .0), eqb-true (recordSize2 x) (size2 t) (k .1))
+-- ---- a searched round's record has its study's class sizes, and holds where removal finds the round joined
+round-sizes : (f : List ℕ) (r : ℕ) (x : List ℕ) → Searched f r x → (recordSize1 x ≡ studySize1 (studyOf f)) × (recordSize2 x ≡ studySize2 (studyOf f))
+round-sizes f r x s = (ap recordSize1 (search-wrote f r x s), ap recordSize2 (search-wrote f r x s))
 
 -- a searched round's record holds where removal finds the round joined
 searched-holds : (f : List ℕ) (r : ℕ) (x : List ℕ) → Searched f r x → (a b : ℕ) → a ≤ recordSize1 x → b ≤ recordSize2 x → T (recordHolds x a b) ↔ RoundHolds (studyOf f) r a b
 searched-holds f r x s = subst (λ y. (a b : ℕ) → a ≤ recordSize1 y → b ≤ recordSize2 y → T (recordHolds y a b) ↔ RoundHolds (studyOf f) r a b) (sym (search-wrote f r x s)) (claims f r (search-passed f r x s) .removal)
 
--- ---- the rounds added, by their records
-record Run (n1 n2 : ℕ) (qs : List (List ℕ × ℕ)) (t : List ℕ) : Type 0 where
-  slice : List ℕ
-  records : List (List ℕ)
-  tallies : Tallies slice t n1 n2 records
-  many : length records ≡ length qs
-  counts : (l1 l2 : ℕ) → l1 ≤ n1 → l2 ≤ n2 → Count (HoldsWith n1 n2 l1 l2) qs (holding records (n1 - l1) (n2 - l2))
+-- ---- the calls
+pub fresh-answer : {n1 n2 : ℕ} {t : List ℕ} (b : Begun n1 n2 t) → newAnswer n1 n2 (length (call.newLent (b .made))) ≡ success (0 ∷ [])
+fresh-answer b = rw (← b .size1-is, ← b .size2-is) (sym (b .made .kept .0) ∙ b .success-is)
 
--- one more
-count-more : {A : Type 0} (P : A → Type 0) (q : A) (qs : List A) (x : Bool) (m n : ℕ) → T x ↔ P q → n ≡ m + cond x 1 0 → Count P qs m → Count P (q ∷ qs) n
-count-more P q qs true m n h e c = inl (h .0 tt, (m, omega arith, c))
-count-more P q qs false m n h e c = inr (h .1, subst (Count P qs) (omega (arith, e)) c)
+pub fresh-left : {n1 n2 : ℕ} {t : List ℕ} (b : Begun n1 n2 t) → newOut n1 n2 (call.newLent (b .made)) ≡ t
+fresh-left b = rw (← b .size1-is, ← b .size2-is) (sym (b .made .kept .1) ∙ through-same (b .through))
 
-run : (n1 n2 : ℕ) (qs : List (List ℕ × ℕ)) (t : List ℕ) → Tallied n1 n2 qs t → Run n1 n2 qs t
-run n1 n2 [] t b = record { slice = begun b .0; records = []; tallies = begun b .1; many = refl; counts = λ l1 l2 h k. refl }
-run n1 n2 (q ∷ qs) t w = next (run n1 n2 qs (w .1) (w .2))
+module _ {x u t : List ℕ} (a : Added x u t) where
+  pub add-answer : addAnswer x u ≡ success (0 ∷ [])
+  add-answer = rw (← a .record-is, ← a .tally-is) (sym (a .made .kept .0) ∙ a .success-is)
+
+  pub add-left : addOut x u ≡ t
+  add-left = rw (← a .record-is, ← a .tally-is) (sym (a .made .kept .1) ∙ through-same (a .through))
+
+  pub add-sizes : (recordSize1 x ≡ size1 u) × (recordSize2 x ≡ size2 u)
+  add-sizes =
+      let e = not-false (sameSizes x u) (outcome-tests (addTests x u) (0 ∷ []) add-answer (23, not (sameSizes x u)) (there (there (there here)))) in
+      let k = and-both (eqb (recordSize1 x) (size1 u)) (eqb (recordSize2 x) (size2 u)) e in
+      (eqb-true (recordSize1 x) (size1 u) (k .0), eqb-true (recordSize2 x) (size2 u) (k .1))
+
+pub record Run (n1 n2 : ℕ) (xs : List (List ℕ)) (t : List ℕ) : Type 0 where
+  pub slice : List ℕ
+  pub records : List (List ℕ)
+  pub tallies : Tallies slice t n1 n2 records
+  pub many : length records ≡ length xs
+  pub counts : (a b : ℕ) → holding records a b ≡ holding xs a b
+
+pub run : (n1 n2 : ℕ) (xs : List (List ℕ)) (t : List ℕ) → Tallied n1 n2 xs t → Run n1 n2 xs t
+run n1 n2 [] t b =
+    let s = call.newLent (b .made) in
+    record { slice = s; records = []; tallies = subst (λ u. Tallies s u n1 n2 []) (fresh-left b) (new-tallies n1 n2 s (fresh-answer b)); many = refl; counts = λ a b. refl }
+run n1 n2 (x ∷ xs) t w = next (run n1 n2 xs (w .0) (w .1))
   where
-    next : Run n1 n2 qs (w .1) → Run n1 n2 (q ∷ qs) t
+    next : Run n1 n2 xs (w .0) → Run n1 n2 (x ∷ xs) t
     next d =
-        let e = ap (λ o. d .records ++ cond (succeeds o) (w .0 ∷ []) []) (answered (w .4)) in
+        let e = ap (λ o. d .records ++ cond (succeeds o) (x ∷ []) []) (add-answer (w .2)) in
         record {
           slice = d .slice;
-          records = d .records ++ (w .0 ∷ []);
-          tallies = subst (λ y. Tallies (d .slice) y n1 n2 (d .records ++ (w .0 ∷ []))) (sym (left (w .4))) (subst (Tallies (d .slice) (addOut (w .0) (w .1)) n1 n2) e (add-tallies (w .0) (d .tallies)));
-          many = length-append (d .records) (w .0 ∷ []) ∙ omega (arith, d .many);
-          counts = λ l1 l2 h k.
-              let z = sizes (w .4) in
-              count-more (HoldsWith n1 n2 l1 l2) q qs (recordHolds (w .0) (n1 - l1) (n2 - l2)) (holding (d .records) (n1 - l1) (n2 - l2)) (holding (d .records ++ (w .0 ∷ [])) (n1 - l1) (n2 - l2))
-              (searched-holds (q .0) (q .1) (w .0) (w .3) (n1 - l1) (n2 - l2) (omega (arith, z, d .tallies .one)) (omega (arith, z, d .tallies .two)))
-              (holding-snoc (d .records) (w .0) (n1 - l1) (n2 - l2)) (d .counts l1 l2 h k);
+          records = d .records ++ (x ∷ []);
+          tallies = subst (λ y. Tallies (d .slice) y n1 n2 (d .records ++ (x ∷ []))) (add-left (w .2)) (subst (Tallies (d .slice) (addOut x (w .0)) n1 n2) e (add-tallies x (d .tallies)));
+          many = length-append (d .records) (x ∷ []) ∙ omega (arith, d .many);
+          counts = λ a b. omega (arith, holding-snoc (d .records) x a b, d .counts a b);
         }
+
+-- so many of the records hold there
+count-holding : (xs : List (List ℕ)) (a b : ℕ) → Count (λ x. T (recordHolds x a b)) xs (holding xs a b)
+count-holding [] a b = refl
+count-holding (x ∷ xs) a b = go (recordHolds x a b) (count-holding xs a b)
+  where
+    go : (h : Bool) → Count (λ x. T (recordHolds x a b)) xs (holding xs a b)
+        → (T h × ((m : ℕ) × (cond h 1 0 + holding xs a b ≡ suc m) × Count (λ x. T (recordHolds x a b)) xs m)) ⊎ ((T h → ⊥) × Count (λ x. T (recordHolds x a b)) xs (cond h 1 0 + holding xs a b))
+    go true c = inl (tt, (holding xs a b, omega arith, c))
+    go false c = inr ((λ t. t), subst (Count (λ x. T (recordHolds x a b)) xs) (omega arith) c)
+
+module _ (n1 n2 : ℕ) (xs : List (List ℕ)) (t : List ℕ) (w : Tallied n1 n2 xs t) where
+  pub sizes : (size1 t ≡ n1) × (size2 t ≡ n2)
+  sizes = let s = run n1 n2 xs t w .tallies in (s .one, s .two)
+
+  pub many : rounds t ≡ length xs
+  many = let d = run n1 n2 xs t w in d .tallies .many ∙ d .many
+
+  pub cells : (l1 l2 : ℕ) → l1 ≤ n1 → l2 ≤ n2 → Count (λ x. T (recordHolds x (n1 - l1) (n2 - l2))) xs (cell t l1 l2)
+  cells l1 l2 h k =
+      let d = run n1 n2 xs t w in
+      let a = n1 - l1 in
+      let b = n2 - l2 in
+      subst (Count (λ x. T (recordHolds x a b)) xs) (sym (d .tallies .cells l1 l2 h k ∙ d .counts a b)) (count-holding xs a b)
+
+  pub sound : Sound t
+  sound = run n1 n2 xs t w .tallies .sound
 
 -- ---- the survival signature formula depends on the counts of cells alone
 formula-same : (n1 n2 p1 p2 : ℕ) (c d : ℕ → ℕ → ℕ) → ((l1 l2 : ℕ) → l1 ≤ n1 → l2 ≤ n2 → c l1 l2 ≡ d l1 l2) → sumE n1 n2 p1 p2 c ≡ sumE n1 n2 p1 p2 d
@@ -105,36 +126,53 @@ formula-same n1 n2 p1 p2 c d h =
 near-same : {n1 n2 p1 p2 s m r : ℕ} {c d : ℕ → ℕ → ℕ} → sumE n1 n2 p1 p2 d ≡ sumE n1 n2 p1 p2 c → Near n1 n2 p1 p2 c s m r → Near n1 n2 p1 p2 d s m r
 near-same e n = record { sum-low = rw e (n .sum-low); sum-high = rw e (n .sum-high); rate-low = rw e (n .rate-low); rate-high = rw e (n .rate-high) }
 
--- ---- refused calls
-new-kept : (c : NewCall) (n : ℕ) → done (c .result) ≡ refused n → c .exit .1 .1 .0 .now ≡ c .args .1 .1 .0 .now
-new-kept c n e = c .kept .1 ∙ ap (λ (o : Outcome). filled o (tallyOf (c .args .0) (c .args .1 .0) 0 (λ l1 l2. 0)) (c .args .1 .1 .0 .now)) (sym (c .kept .0) ∙ e)
+-- ---- rounds
+pub studies : (n1 n2 : ℕ) (qs : List (List ℕ × ℕ)) (xs : List (List ℕ)) (t : List ℕ) → Tallied n1 n2 xs t → AllSearched qs xs
+    → (q : List ℕ × ℕ) → q ∈ qs → (studySize1 (studyOf (q .0)) ≡ n1) × (studySize2 (studyOf (q .0)) ≡ n2)
+studies n1 n2 (p ∷ qs) (x ∷ xs) t w s q (List·Memᴰ·head e) =
+    let z = round-sizes (p .0) (p .1) x (s .0) in
+    let a = add-sizes (w .2) in
+    let b = sizes n1 n2 xs (w .0) (w .1) in
+    subst (λ (i : List ℕ × ℕ). (studySize1 (studyOf (i .0)) ≡ n1) × (studySize2 (studyOf (i .0)) ≡ n2)) (sym e) (sym (z .0) ∙ a .0 ∙ b .0, sym (z .1) ∙ a .1 ∙ b .1)
+studies n1 n2 (p ∷ qs) (x ∷ xs) t w s q (List·Memᴰ·tail m) = studies n1 n2 qs xs (w .0) (w .1) (s .1) q m
+studies n1 n2 (p ∷ qs) [] t w s q m = absurd s
+studies n1 n2 [] xs t w s q m = elim m [ ]
 
-add-kept : (c : AddCall) (n : ℕ) → done (c .result) ≡ refused n → c .exit .1 .0 .now ≡ c .args .1 .0 .now
-add-kept c n e = c .kept .1 ∙ ap (λ (o : Outcome). filled o (added (c .args .0 .now) (c .args .1 .0 .now)) (c .args .1 .0 .now)) (sym (c .kept .0) ∙ e)
+-- as many rounds as records
+pub as-many : (qs : List (List ℕ × ℕ)) (xs : List (List ℕ)) → AllSearched qs xs → length xs ≡ length qs
+as-many [] [] s = refl
+as-many [] (x ∷ xs) s = absurd s
+as-many (q ∷ qs) [] s = absurd s
+as-many (q ∷ qs) (x ∷ xs) s = ap suc (as-many qs xs (s .1))
 
--- THE THEOREM
-pub survival : (n1 n2 : ℕ) (qs : List (List ℕ × ℕ)) (t : List ℕ) → Tallied n1 n2 qs t → Survival n1 n2 qs t
-survival n1 n2 qs t w = go (run n1 n2 qs t w)
-  where
-    go : Run n1 n2 qs t → Survival n1 n2 qs t
-    go d =
-        record {
-          one = s .one;
-          two = s .two;
-          many = s .many ∙ d .many;
-          cells = cells;
-          sound = s .sound;
-          near = λ counts are p1 p2 x m r rate.
-              let a = rw (rate .tally-is, rate .first-is, rate .second-is) at (sym (rate .call .kept) ∙ rate .answer-is) in
-              let n = near t p1 p2 x m r a in
-              let e = formula-same n1 n2 p1 p2 counts (cell t) (λ l1 l2 h j. count-one (HoldsWith n1 n2 l1 l2) qs (counts l1 l2) (cell t l1 l2) (are l1 l2 h j) (cells l1 l2 h j)) in
-              (n .0 ∙ s .many ∙ d .many, near-same e (rw (← s .one, ← s .two) (n .1)));
-          new-refused = new-kept;
-          add-refused = add-kept;
-        }
-      where
-        s : Tallies (d .slice) t n1 n2 (d .records)
-        s = d .tallies
+-- as many rounds are joined as records hold
+joined : (n1 n2 : ℕ) (qs : List (List ℕ × ℕ)) (xs : List (List ℕ)) (t : List ℕ) → Tallied n1 n2 xs t → AllSearched qs xs → (l1 l2 n : ℕ)
+    → Count (λ x. T (recordHolds x (n1 - l1) (n2 - l2))) xs n → Count (HoldsWith n1 n2 l1 l2) qs n
+joined n1 n2 [] [] t w s l1 l2 n c = c
+joined n1 n2 [] (x ∷ xs) t w s l1 l2 n c = absurd s
+joined n1 n2 (q ∷ qs) [] t w s l1 l2 n c = absurd s
+joined n1 n2 (q ∷ qs) (x ∷ xs) t w s l1 l2 n c =
+    let a = add-sizes (w .2) in
+    let b = sizes n1 n2 xs (w .0) (w .1) in
+    let h = searched-holds (q .0) (q .1) x (s .0) (n1 - l1) (n2 - l2) (omega (arith, a .0, b .0)) (omega (arith, a .1, b .1)) in
+    ⊎-elim (λ k. inl (h .0 (k .0), (k .1 .0, k .1 .1, joined n1 n2 qs xs (w .0) (w .1) (s .1) l1 l2 (k .1 .0) (k .1 .2))))
+    (λ k. inr ((λ g. k .0 (h .1 g)), joined n1 n2 qs xs (w .0) (w .1) (s .1) l1 l2 n (k .1))) c
 
-        cells : (l1 l2 : ℕ) → l1 ≤ n1 → l2 ≤ n2 → Count (HoldsWith n1 n2 l1 l2) qs (cell t l1 l2)
-        cells l1 l2 h k = subst (Count (HoldsWith n1 n2 l1 l2) qs) (sym (s .cells l1 l2 h k)) (d .counts l1 l2 h k)
+pub counts : (n1 n2 : ℕ) (qs : List (List ℕ × ℕ)) (xs : List (List ℕ)) (t : List ℕ) → Tallied n1 n2 xs t → AllSearched qs xs
+    → (l1 l2 : ℕ) → l1 ≤ n1 → l2 ≤ n2 → Count (HoldsWith n1 n2 l1 l2) qs (cell t l1 l2)
+counts n1 n2 qs xs t w a l1 l2 h k = joined n1 n2 qs xs t w a l1 l2 (cell t l1 l2) (cells n1 n2 xs t w l1 l2 h k)
+
+-- ---- reliability of any tally
+pub rated : (t : List ℕ) (p1 p2 s m r : ℕ) → Rating t p1 p2 s m r → (m ≡ rounds t) × Near (size1 t) (size2 t) p1 p2 (cell t) s m r
+rated t p1 p2 s m r a = answers.near t p1 p2 s m r (rw (← a .tally-is, ← a .chance1-is, ← a .chance2-is) (sym (a .made .kept) ∙ a .success-is))
+
+-- on the counts that removal finds
+pub near-rounds : (n1 n2 : ℕ) (qs : List (List ℕ × ℕ)) (xs : List (List ℕ)) (t : List ℕ) → Tallied n1 n2 xs t → AllSearched qs xs
+    → (by-removal : ℕ → ℕ → ℕ) → ((l1 l2 : ℕ) → l1 ≤ n1 → l2 ≤ n2 → Count (HoldsWith n1 n2 l1 l2) qs (by-removal l1 l2))
+    → (p1 p2 s m r : ℕ) → Rating t p1 p2 s m r → (m ≡ length qs) × Near n1 n2 p1 p2 by-removal s m r
+near-rounds n1 n2 qs xs t w a by-removal are p1 p2 s m r rate =
+    let n = rated t p1 p2 s m r rate in
+    let z = sizes n1 n2 xs t w in
+    let one : (l1 l2 : ℕ) → l1 ≤ n1 → l2 ≤ n2 → by-removal l1 l2 ≡ cell t l1 l2 = λ l1 l2 h k.
+    count-one (HoldsWith n1 n2 l1 l2) qs (by-removal l1 l2) (cell t l1 l2) (are l1 l2 h k) (counts n1 n2 qs xs t w a l1 l2 h k) in
+    (n .0 ∙ many n1 n2 xs t w ∙ as-many qs xs a, near-same (formula-same n1 n2 p1 p2 by-removal (cell t) one) (rw (← z .0, ← z .1) (n .1)))

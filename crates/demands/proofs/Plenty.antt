@@ -1,0 +1,201 @@
+-- Calls that succeed wherever the definitions say so, and from them every plan and every list of rounds that can be built.
+use mathlib.Core.Path.{_≡_, refl, sym, ap, ap₂, subst, _∙_}
+use mathlib.Core.Bool.{Bool, true, false, not, _&&_, _||_}
+use mathlib.Core.List.{List, [], _∷_, _++_}
+use Prim.Native.Nat.{ℕ, suc, _≤_, _<_}
+use native.Mathlib.Omega.{arith}
+use borrow.Author.Tests.{eq-eqb, ne-eqb, le-leb, le-ltb}
+use lib.Dec.{T, leb, ltb, eqb, eqb-refl}
+use lib.ListN.{length, getD, take, drop, replicate, length-replicate}
+use lib.Seq.{take-at}
+use Rattle.laws.specs.Members.{_∈_, here, there}
+use Rattle.laws.specs.Tests.{T-true, T-and, T-not}
+use Rattle.answer.specs.Outcome.{Outcome, success, outcome, filled}
+use Rattle.answer.proofs.Outcomes.{outcome-values}
+use Rattle.record.specs.Record.{size1 as recordSize1, size2 as recordSize2, isRecord}
+use Rattle.compose.specs.Compose.{seriesBytes, parallelBytes, sameSizes, recordTests, joinTests, seriesAnswer, seriesOut, parallelAnswer, parallelOut}
+use Rattle.sections.specs.File.{studyOf}
+use Rattle.network.specs.Round.{size1 as studySize1, size2 as studySize2}
+use Rattle.search.specs.Search.{searchBytes, roundTests, searchAnswer, searchOut}
+use Rattle.soundness.specs.Tally.{head, size1, size2, rounds, words, noRoom, isSound}
+use Rattle.soundness.proofs.Sounds.{sound-is}
+use Rattle.tally.specs.Calls.{newAnswer, newOut, addAnswer, addOut}
+use Rattle.tally.specs.Adds.{Tallies}
+use Rattle.reliability.specs.Calls.{rateAnswer}
+use Rattle.writer.specs.Writer.{Given, studyBytes, writeTests, writeAnswer, writeOut}
+use Rattle.plan.specs.Plan.{Plan, searched, series, parallel, PlanSized}
+use Rattle.plan.specs.Calls.{Through, none, Handed, Searched, Row, Side, Built}
+use Rattle.plan.proofs.Plans.{sound, one-size}
+use Rattle.survival.specs.Calls.{Begun, Added, Tallied, AllSearched, Rating}
+use Rattle.survival.proofs.Tallies.{run, as-many}
+use Rattle.kinds.specs.Kinds as call
+use Rattle.demands.specs.Terms.{None, PlanPasses, Wrote}
+use Rattle.demands.proofs.Numbers.{none-is, none-append, fits}
+use Rattle.demands.proofs.Made.{search-made, row-made, side-made, fresh-made, add-made, reliability-made, writer-made}
+
+-- what a successful call filled, handed on at once
+at-once : (ts : List (ℕ × Bool)) (bytes s left : List ℕ) (n : ℕ) (a : Outcome) → a ≡ outcome ts (length bytes ∷ []) → left ≡ filled (outcome ts (length bytes ∷ [])) bytes s
+    → outcome ts (length bytes ∷ []) ≡ success (n ∷ []) → Handed a left bytes
+at-once ts bytes s left n a e l o =
+    let h : length bytes ≡ n = ap (λ v. getD v 0 0) (outcome-values ts (length bytes ∷ []) (n ∷ []) o) in
+    record {
+      size = n;
+      success-is = e ∙ o;
+      slice = left;
+      through = none;
+      part-is = sym (ap (take n) l ∙ ap (λ (x : Outcome). take n (filled x bytes s)) o ∙ take-at bytes (drop (length bytes) s) n h);
+    }
+
+abbrev room : List ℕ → List ℕ → List (ℕ × Bool)
+room bytes s = (15, ltb (length s) (length bytes)) ∷ []
+
+pub searched-by : (f : List ℕ) (r : ℕ) (s : List ℕ) (n : ℕ) → searchAnswer f r (length s) ≡ success (n ∷ []) → Searched f r (searchBytes f r)
+searched-by f r s n o =
+    let m = search-made f r s in
+    let c = m .0 in
+    let a : call.searchResult c ≡ searchAnswer f r (length s) = rw (m .1, m .2, m .3) at (c .kept .0) in
+    let l : call.searchLeft c ≡ searchOut f r s = rw (m .1, m .2, m .3) at (c .kept .1) in
+    record {
+      made = c;
+      file-is = m .1;
+      round-is = m .2;
+      handed = at-once (roundTests f r ++ room (searchBytes f r) s) (searchBytes f r) s (call.searchLeft c) n (call.searchResult c) a l o;
+    }
+
+pub row-by : (y z s : List ℕ) (n : ℕ) → seriesAnswer y z (length s) ≡ success (n ∷ []) → Row y z (seriesBytes y z)
+row-by y z s n o =
+    let m = row-made y z s in
+    let c = m .0 in
+    let a : call.seriesResult c ≡ seriesAnswer y z (length s) = rw (m .1, m .2, m .3) at (c .kept .0) in
+    let l : call.seriesLeft c ≡ seriesOut y z s = rw (m .1, m .2, m .3) at (c .kept .1) in
+    record {
+      made = c;
+      first-is = m .1;
+      second-is = m .2;
+      handed = at-once (joinTests y z (seriesBytes y z) (length s)) (seriesBytes y z) s (call.seriesLeft c) n (call.seriesResult c) a l o;
+    }
+
+pub side-by : (y z s : List ℕ) (n : ℕ) → parallelAnswer y z (length s) ≡ success (n ∷ []) → Side y z (parallelBytes y z)
+side-by y z s n o =
+    let m = side-made y z s in
+    let c = m .0 in
+    let a : call.parallelResult c ≡ parallelAnswer y z (length s) = rw (m .1, m .2, m .3) at (c .kept .0) in
+    let l : call.parallelLeft c ≡ parallelOut y z s = rw (m .1, m .2, m .3) at (c .kept .1) in
+    record {
+      made = c;
+      first-is = m .1;
+      second-is = m .2;
+      handed = at-once (joinTests y z (parallelBytes y z) (length s)) (parallelBytes y z) s (call.parallelLeft c) n (call.parallelResult c) a l o;
+    }
+
+pub wrote-by : (g : Given) (s : List ℕ) (n : ℕ) → writeAnswer g (length s) ≡ success (n ∷ []) → Wrote g (studyBytes g)
+wrote-by g s n o =
+    let m = writer-made g s in
+    let c = m .0 in
+    let a : call.writeResult c ≡ writeAnswer g (length s) = c .kept .0 ∙ ap₂ (λ (h : Given) i. writeAnswer h (length i)) (m .1) (m .2) in
+    let l : call.writeLeft c ≡ writeOut g s = c .kept .1 ∙ ap₂ writeOut (m .1) (m .2) in
+    record { made = c; given-is = m .1; handed = at-once (writeTests g (length s)) (studyBytes g) s (call.writeLeft c) n (call.writeResult c) a l o }
+
+pub begun-by : (n1 n2 : ℕ) (s : List ℕ) → newAnswer n1 n2 (length s) ≡ success (0 ∷ []) → Begun n1 n2 (newOut n1 n2 s)
+begun-by n1 n2 s o =
+    let m = fresh-made n1 n2 s in
+    let c = m .0 in
+    let a : call.newResult c ≡ newAnswer n1 n2 (length s) = rw (m .1, m .2, m .3) at (c .kept .0) in
+    let l : call.newLeft c ≡ newOut n1 n2 s = rw (m .1, m .2, m .3) at (c .kept .1) in
+    record { made = c; size1-is = m .1; size2-is = m .2; success-is = a ∙ o; through = subst (Through (call.newLeft c)) l none }
+
+pub added-by : (x t : List ℕ) → addAnswer x t ≡ success (0 ∷ []) → Added x t (addOut x t)
+added-by x t o =
+    let m = add-made x t in
+    let c = m .0 in
+    let a : call.addResult c ≡ addAnswer x t = rw (m .1, m .2) at (c .kept .0) in
+    let l : call.addLeft c ≡ addOut x t = rw (m .1, m .2) at (c .kept .1) in
+    record { made = c; record-is = m .1; tally-is = m .2; success-is = a ∙ o; through = subst (Through (call.addLeft c)) l none }
+
+pub rating-by : (t : List ℕ) (p1 p2 s m r : ℕ) → rateAnswer t p1 p2 ≡ success (s ∷ m ∷ r ∷ []) → Rating t p1 p2 s m r
+rating-by t p1 p2 s m r o =
+    let k = reliability-made t p1 p2 in
+    let c = k .0 in
+    let a : call.rateResult c ≡ rateAnswer t p1 p2 = rw (k .1, k .2, k .3) at (c .kept) in
+    record { made = c; tally-is = k .1; chance1-is = k .2; chance2-is = k .3; success-is = a ∙ o }
+
+-- ---- a slice just long enough
+just-fits : (ts : List (ℕ × Bool)) (b : List ℕ) → None ts → outcome (ts ++ room b b) (length b ∷ []) ≡ success (length b ∷ [])
+just-fits ts b n = none-is (ts ++ room b b) (length b ∷ []) (length b ∷ []) .1 (none-append ts (room b b) .1 (n, (fits (length b) (length b) .1 (omega arith), tt)), refl)
+
+pub round-made : (f : List ℕ) (r : ℕ) → None (roundTests f r) → Searched f r (searchBytes f r)
+round-made f r n = let b = searchBytes f r in searched-by f r b (length b) (just-fits (roundTests f r) b n)
+
+-- ---- plans
+-- records of plans of the same sizes pass tests 12 and 13
+joinable : (p q : Plan) (n1 n2 : ℕ) (x y : List ℕ) → PlanSized p n1 n2 → PlanSized q n1 n2 → Built p x → Built q y → None (recordTests x y)
+joinable p q n1 n2 x y sp sq bp bq =
+    let i = one-size p (recordSize1 x) (recordSize2 x) n1 n2 (sound p x bp .sized) sp in
+    let j = one-size q (recordSize1 y) (recordSize2 y) n1 n2 (sound q y bq .sized) sq in
+    let e1 = subst (λ m. T (eqb (recordSize1 x) m)) (i .0 ∙ sym (j .0)) (eqb-refl (recordSize1 x)) in
+    let e2 = subst (λ m. T (eqb (recordSize2 x) m)) (i .1 ∙ sym (j .1)) (eqb-refl (recordSize2 x)) in (
+      (λ t. T-not (isRecord x && isRecord y) .0 t (T-and (isRecord x) (isRecord y) .1 (sound p x bp .is, sound q y bq .is))),
+      ((λ t. T-not (sameSizes x y) .0 t (T-and (eqb (recordSize1 x) (recordSize1 y)) (eqb (recordSize2 x) (recordSize2 y)) .1 (e1, e2))), tt),
+    )
+
+pub plan-made : (p : Plan) (n1 n2 : ℕ) → PlanSized p n1 n2 → PlanPasses p → (x : List ℕ) × Built p x
+plan-made (searched f r) n1 n2 s h = (searchBytes f r, round-made f r h)
+plan-made (series p q) n1 n2 s h =
+    let i = plan-made p n1 n2 (s .0) (h .0) in
+    let j = plan-made q n1 n2 (s .1) (h .1) in
+    let b = seriesBytes (i .0) (j .0) in
+    (b, (i .0, j .0, i .1, j .1, row-by (i .0) (j .0) b (length b) (just-fits (recordTests (i .0) (j .0)) b (joinable p q n1 n2 (i .0) (j .0) (s .0) (s .1) (i .1) (j .1)))))
+plan-made (parallel p q) n1 n2 s h =
+    let i = plan-made p n1 n2 (s .0) (h .0) in
+    let j = plan-made q n1 n2 (s .1) (h .1) in
+    let b = parallelBytes (i .0) (j .0) in
+    (b, (i .0, j .0, i .1, j .1, side-by (i .0) (j .0) b (length b) (just-fits (recordTests (i .0) (j .0)) b (joinable p q n1 n2 (i .0) (j .0) (s .0) (s .1) (i .1) (j .1)))))
+
+-- ---- tallies
+abbrev blank : ℕ → ℕ → List ℕ
+blank n1 n2 = replicate (words n1 n2) 0
+
+new-answer : (n1 n2 : ℕ) → n1 ≤ 64 → n2 ≤ 64 → newAnswer n1 n2 (length (blank n1 n2)) ≡ success (0 ∷ [])
+new-answer n1 n2 h k =
+    go (ltb 64 n1) (ltb 64 n2) (ltb (length (blank n1 n2)) (words n1 n2)) (le-ltb 64 n1 h) (le-ltb 64 n2 k)
+    (le-ltb (length (blank n1 n2)) (words n1 n2) (omega (arith, length-replicate {A = ℕ} (words n1 n2) 0)))
+  where
+    go : (a b c : Bool) → a ≡ false → b ≡ false → c ≡ false → outcome ((6, a || b) ∷ (21, c) ∷ []) (0 ∷ []) ≡ success (0 ∷ [])
+    go a b c ha hb hc = rw (ha, hb, hc)
+
+module _ (x : List ℕ) {s t : List ℕ} {n1 n2 : ℕ} {rs : List (List ℕ)} (is : isRecord x ≡ true) (one : recordSize1 x ≡ n1) (two : recordSize2 x ≡ n2) (w : Tallies s t n1 n2 rs) (few : length rs < 100000) where
+  has-room : noRoom t ≡ false
+  has-room =
+      go (ltb (length t) head) (leb (size1 t) 64) (leb (size2 t) 64) (ltb (length t) (words (size1 t) (size2 t))) (le-ltb (length t) head (omega (arith, fit)))
+      (le-leb (size1 t) 64 (w .sound .small1)) (le-leb (size2 t) 64 (w .sound .small2)) (le-ltb (length t) (words (size1 t) (size2 t)) fit)
+    where
+      fit : words (size1 t) (size2 t) ≤ length t
+      fit = rw (w .one, w .two, w .long) (w .room)
+
+      go : (a b c d : Bool) → a ≡ false → b ≡ true → c ≡ true → d ≡ false → a || (b && c && d) ≡ false
+      go a b c d ha hb hc hd = rw (ha, hb, hc, hd)
+
+  add-answer : addAnswer x t ≡ success (0 ∷ [])
+  add-answer =
+      go (isRecord x) (noRoom t) (isSound t) (eqb (recordSize1 x) (size1 t)) (eqb (recordSize2 x) (size2 t)) (eqb (rounds t) 100000) is has-room (sound-is t .1 (w .sound))
+      (eq-eqb (recordSize1 x) (size1 t) (one ∙ sym (w .one))) (eq-eqb (recordSize2 x) (size2 t) (two ∙ sym (w .two))) (ne-eqb (rounds t) 100000 (λ e. absurd (omega (arith, e, w .many, few))))
+    where
+      go : (a b c d e f : Bool) → a ≡ true → b ≡ false → c ≡ true → d ≡ true → e ≡ true → f ≡ false
+          → outcome ((12, not a) ∷ (21, b) ∷ (22, not c) ∷ (23, not (d && e)) ∷ (24, f) ∷ []) (0 ∷ []) ≡ success (0 ∷ [])
+      go a b c d e f ha hb hc hd he hf = rw (ha, hb, hc, hd, he, hf)
+
+abbrev Good : ℕ → ℕ → List ℕ × ℕ → Type 0
+Good n1 n2 q = None (roundTests (q .0) (q .1)) × (studySize1 (studyOf (q .0)) ≡ n1) × (studySize2 (studyOf (q .0)) ≡ n2)
+
+pub tally-made : (n1 n2 : ℕ) (qs : List (List ℕ × ℕ)) → n1 ≤ 64 → n2 ≤ 64 → length qs ≤ 100000 → ((q : List ℕ × ℕ) → q ∈ qs → Good n1 n2 q)
+    → (xs : List (List ℕ)) × (t : List ℕ) × Tallied n1 n2 xs t × AllSearched qs xs
+tally-made n1 n2 [] a b c h = ([], newOut n1 n2 (blank n1 n2), begun-by n1 n2 (blank n1 n2) (new-answer n1 n2 a b), tt)
+tally-made n1 n2 (q ∷ qs) a b c h =
+    let k = tally-made n1 n2 qs a b (omega arith) (λ i m. h i (there m)) in
+    let g = h q here in
+    let x = searchBytes (q .0) (q .1) in
+    let s : Searched (q .0) (q .1) x = round-made (q .0) (q .1) (g .0) in
+    let d = run n1 n2 (k .0) (k .1) (k .2) in
+    let few : length (d .records) < 100000 = omega (arith, d .many, as-many qs (k .0) (k .3)) in
+    let o = add-answer x (T-true (isRecord x) .0 (sound (searched (q .0) (q .1)) x s .is)) (g .1) (g .2) (d .tallies) few in
+    (x ∷ k .0, addOut x (k .1), (k .1, k .2, added-by x (k .1) o), (s, k .3))

@@ -1,0 +1,177 @@
+-- EVERY FUNCTION OF THE C INTERFACE (crate medlarbrace, include/medlarbrace.h) on the machine (runs/specs/Run.antt): it ends, on any arguments that a
+-- machine can hold; it returns 0 or the number of a refusal, what the call of document 01 with the same arguments answers (demands/specs/Demands.antt has what
+-- is known of that call), and what it was lent then holds what that call left; where it returns another number than 0, every lent block is as it was.
+use mathlib.Core.Path.{_≡_}
+use mathlib.Core.List.{List, [], _∷_}
+use Prim.Native.Nat.{ℕ, _+_, _≤_}
+use lib.ListN.{length}
+use mir.Val.{vint}
+use mir.Syntax.{w32, w64}
+use Rattle.answer.specs.Outcome.{Outcome, success}
+use Rattle.slices.specs.Bytes.{partAt}
+use Rattle.writer.specs.Writer.{Given}
+use Rattle.medlarbrace.specs.Interface.{code, result, headerAnswer, headerOut, placeAnswer}
+use Rattle.runs.specs.Arguments.{u8, u32, u64, Block, block, number, shared, mutable, place, value, lent}
+use Rattle.runs.specs.Run.{at, Held, Run, run, Ends, AlwaysEnds}
+use Rattle.kinds.specs.Kinds as call
+use Rattle.medlarbrace.proofs.files.medlarbrace_open.Kinds as opening-kinds
+use Rattle.medlarbrace.proofs.files.medlarbrace_open.Reads as opening-reads
+use Rattle.medlarbrace.proofs.files.medlarbrace_open.Symbol as opening-symbol
+use Rattle.medlarbrace.proofs.files.medlarbrace_round.Kinds as lookup-kinds
+use Rattle.medlarbrace.proofs.files.medlarbrace_round.Reads as lookup-reads
+use Rattle.medlarbrace.proofs.files.medlarbrace_round.Symbol as lookup-symbol
+use Rattle.medlarbrace.proofs.files.medlarbrace_search.Kinds as search-kinds
+use Rattle.medlarbrace.proofs.files.medlarbrace_search.Reads as search-reads
+use Rattle.medlarbrace.proofs.files.medlarbrace_search.Symbol as search-symbol
+use Rattle.medlarbrace.proofs.records.medlarbrace_series.Kinds as series-kinds
+use Rattle.medlarbrace.proofs.records.medlarbrace_series.Reads as series-reads
+use Rattle.medlarbrace.proofs.records.medlarbrace_series.Symbol as series-symbol
+use Rattle.medlarbrace.proofs.records.medlarbrace_parallel.Kinds as parallel-kinds
+use Rattle.medlarbrace.proofs.records.medlarbrace_parallel.Reads as parallel-reads
+use Rattle.medlarbrace.proofs.records.medlarbrace_parallel.Symbol as parallel-symbol
+use Rattle.medlarbrace.proofs.tallies.medlarbrace_tally_new.Kinds as new-kinds
+use Rattle.medlarbrace.proofs.tallies.medlarbrace_tally_new.Reads as new-reads
+use Rattle.medlarbrace.proofs.tallies.medlarbrace_tally_new.Symbol as new-symbol
+use Rattle.medlarbrace.proofs.tallies.medlarbrace_tally_add.Kinds as add-kinds
+use Rattle.medlarbrace.proofs.tallies.medlarbrace_tally_add.Reads as add-reads
+use Rattle.medlarbrace.proofs.tallies.medlarbrace_tally_add.Symbol as add-symbol
+use Rattle.medlarbrace.proofs.tallies.medlarbrace_ageing.Kinds as ageing-kinds
+use Rattle.medlarbrace.proofs.tallies.medlarbrace_ageing.Reads as ageing-reads
+use Rattle.medlarbrace.proofs.tallies.medlarbrace_ageing.Symbol as ageing-symbol
+use Rattle.medlarbrace.proofs.tallies.medlarbrace_weights.Kinds as weights-kinds
+use Rattle.medlarbrace.proofs.tallies.medlarbrace_weights.Reads as weights-reads
+use Rattle.medlarbrace.proofs.tallies.medlarbrace_weights.Symbol as weights-symbol
+use Rattle.medlarbrace.proofs.tallies.medlarbrace_reliability.Kinds as reliability-kinds
+use Rattle.medlarbrace.proofs.tallies.medlarbrace_reliability.Reads as reliability-reads
+use Rattle.medlarbrace.proofs.tallies.medlarbrace_reliability.Symbol as reliability-symbol
+use Rattle.medlarbrace.proofs.files.medlarbrace_write.Kinds as writer-kinds
+use Rattle.medlarbrace.proofs.files.medlarbrace_write.Reads as writer-reads
+use Rattle.medlarbrace.proofs.files.medlarbrace_write.Symbol as writer-symbol
+
+-- ---- THE FUNCTIONS with their arguments; k is what `written` leads to at the call
+-- medlarbrace_open(file, header)
+abbrev pub opening : List ℕ → List ℕ → Run
+opening f header =
+    run 2 (shared u8 0 tt f ∷ mutable u32 1 tt header ∷ [])
+    (value opening-kinds.r) opening-reads.Asked opening-reads.Learnt opening-symbol.routine
+
+-- medlarbrace_round(file, round, start, count)
+abbrev pub lookup : List ℕ → ℕ → ℕ → ℕ → Run
+lookup f r start count =
+    run 3 (shared u8 0 tt f ∷ number w64 r ∷ place u64 1 tt start ∷ place u64 2 tt count ∷ [])
+    (value lookup-kinds.r) lookup-reads.Asked lookup-reads.Learnt lookup-symbol.routine
+
+-- medlarbrace_search(file, round, out, written)
+abbrev pub search : List ℕ → ℕ → List ℕ → ℕ → Run
+search f r out k =
+    run 3 (shared u8 0 tt f ∷ number w64 r ∷ mutable u8 1 tt out ∷ place u64 2 tt k ∷ [])
+    (value search-kinds.r) search-reads.Asked search-reads.Learnt search-symbol.routine
+
+-- medlarbrace_series(left, right, out, written)
+abbrev pub series : List ℕ → List ℕ → List ℕ → ℕ → Run
+series y z out k =
+    run 4 (shared u8 0 tt y ∷ shared u8 1 tt z ∷ mutable u8 2 tt out ∷ place u64 3 tt k ∷ [])
+    (value series-kinds.r) series-reads.Asked series-reads.Learnt series-symbol.routine
+
+-- medlarbrace_parallel(left, right, out, written)
+abbrev pub parallel : List ℕ → List ℕ → List ℕ → ℕ → Run
+parallel y z out k =
+    run 4 (shared u8 0 tt y ∷ shared u8 1 tt z ∷ mutable u8 2 tt out ∷ place u64 3 tt k ∷ [])
+    (value parallel-kinds.r) parallel-reads.Asked parallel-reads.Learnt parallel-symbol.routine
+
+-- medlarbrace_tally_new(n1, n2, tally)
+abbrev pub new : ℕ → ℕ → List ℕ → Run
+new n1 n2 t = run 1 (number w32 n1 ∷ number w32 n2 ∷ mutable u32 0 tt t ∷ []) (value new-kinds.r) new-reads.Asked new-reads.Learnt new-symbol.routine
+
+-- medlarbrace_tally_add(record, tally)
+abbrev pub add : List ℕ → List ℕ → Run
+add x t = run 2 (shared u8 0 tt x ∷ mutable u32 1 tt t ∷ []) (value add-kinds.r) add-reads.Asked add-reads.Learnt add-symbol.routine
+
+-- medlarbrace_ageing(age, chance)
+abbrev pub ageing : ℕ → ℕ → Run
+ageing y chance = run 1 (number w64 y ∷ place u32 0 tt chance ∷ []) (value ageing-kinds.r) ageing-reads.Asked ageing-reads.Learnt ageing-symbol.routine
+
+-- medlarbrace_weights(n, chance, weights)
+abbrev pub weights : ℕ → ℕ → List ℕ → Run
+weights n p out =
+    run 1 (number w32 n ∷ number w32 p ∷ mutable u32 0 tt out ∷ [])
+    (value weights-kinds.r) weights-reads.Asked weights-reads.Learnt weights-symbol.routine
+
+-- medlarbrace_reliability(tally, chance1, chance2, sum, rounds, reliability)
+abbrev pub reliability : List ℕ → ℕ → ℕ → ℕ → ℕ → ℕ → Run
+reliability t p1 p2 s m r =
+    run 4 (shared u32 0 tt t ∷ number w32 p1 ∷ number w32 p2 ∷ place u64 1 tt s ∷ place u64 2 tt m ∷ place u64 3 tt r ∷ [])
+    (value reliability-kinds.r) reliability-reads.Asked reliability-reads.Learnt reliability-symbol.routine
+
+-- medlarbrace_write(nodes, arcs, rounds, source, target, total, out, written)
+abbrev pub writer : Given → List ℕ → ℕ → Run
+writer g out k =
+    run 5
+    (shared u8 0 tt (g .nodes) ∷ shared u8 1 tt (g .arcs) ∷ shared u8 2 tt (g .rounds)
+    ∷ number w64 (g .source) ∷ number w64 (g .target) ∷ number w64 (g .total) ∷ mutable u8 3 tt out ∷ place u64 4 tt k ∷ [])
+    (value writer-kinds.r) writer-reads.Asked writer-reads.Learnt writer-symbol.routine
+
+-- ---- WHAT IS SAID OF A RUN
+-- it returns 0 or the number of this answer's refusal (`code`), and what it was lent then holds these, a block each
+abbrev pub Says : Run → Outcome → List Block → Type 0
+Says c answer blocks = (others : List Block) (e : Ends others c) → (e .value ≡ vint w32 (code answer)) × Held (e .memory) (at others) blocks
+
+-- where it returns another number than 0, every lent block holds what it held
+abbrev pub KeepsUnless0 : Run → Type 0
+KeepsUnless0 c = (others : List Block) (e : Ends others c) → (e .value ≡ vint w32 0 → ⊥) → Held (e .memory) (at others) (lent (c .args))
+
+pub record EveryFunction : Type 0 where
+  -- each ends, and asks nothing of its caller
+  pub opening-ends : (f header : List ℕ) → AlwaysEnds (opening f header)
+  pub lookup-ends : (f : List ℕ) (r start count : ℕ) → AlwaysEnds (lookup f r start count)
+  pub search-ends : (f : List ℕ) (r : ℕ) (out : List ℕ) (k : ℕ) → AlwaysEnds (search f r out k)
+  pub series-ends : (y z out : List ℕ) (k : ℕ) → AlwaysEnds (series y z out k)
+  pub parallel-ends : (y z out : List ℕ) (k : ℕ) → AlwaysEnds (parallel y z out k)
+  pub new-ends : (n1 n2 : ℕ) (t : List ℕ) → AlwaysEnds (new n1 n2 t)
+  pub add-ends : (x t : List ℕ) → AlwaysEnds (add x t)
+  pub ageing-ends : (y chance : ℕ) → AlwaysEnds (ageing y chance)
+  pub weights-ends : (n p : ℕ) (out : List ℕ) → AlwaysEnds (weights n p out)
+  pub reliability-ends : (t : List ℕ) (p1 p2 s m r : ℕ) → AlwaysEnds (reliability t p1 p2 s m r)
+  pub writer-ends : (g : Given) (out : List ℕ) (k : ℕ) → AlwaysEnds (writer g out k)
+  -- what each answers and leaves: for every call of document 01, the function with that call's arguments answers and leaves what the call did; a value of
+  -- the answer goes where its pointer leads (`result`: the value's place in the answer; what was there, on a refusal)
+  pub search-says : (c : call.SearchCall) (k : ℕ) → let a = call.searchResult c in
+      Says (search (call.searchFile c) (call.searchRound c) (call.searchLent c) k) a
+      (block u8 (call.searchFile c) ∷ block u8 (call.searchLeft c) ∷ block u64 (result 0 a k ∷ []) ∷ [])
+  pub series-says : (c : call.SeriesCall) (k : ℕ) → let a = call.seriesResult c in
+      Says (series (call.seriesFirst c) (call.seriesSecond c) (call.seriesLent c) k) a
+      (block u8 (call.seriesFirst c) ∷ block u8 (call.seriesSecond c) ∷ block u8 (call.seriesLeft c) ∷ block u64 (result 0 a k ∷ []) ∷ [])
+  pub parallel-says : (c : call.ParallelCall) (k : ℕ) → let a = call.parallelResult c in
+      Says (parallel (call.parallelFirst c) (call.parallelSecond c) (call.parallelLent c) k) a
+      (block u8 (call.parallelFirst c) ∷ block u8 (call.parallelSecond c) ∷ block u8 (call.parallelLeft c) ∷ block u64 (result 0 a k ∷ []) ∷ [])
+  pub new-says : (c : call.NewCall) → Says (new (call.newSize1 c) (call.newSize2 c) (call.newLent c)) (call.newResult c) (block u32 (call.newLeft c) ∷ [])
+  pub add-says : (c : call.AddCall) →
+      Says (add (call.addRecord c) (call.addLent c)) (call.addResult c) (block u8 (call.addRecord c) ∷ block u32 (call.addLeft c) ∷ [])
+  pub ageing-says : (c : call.AgeingCall) (chance : ℕ) → let a = call.ageingResult c in
+      Says (ageing (call.ageingAge c) chance) a (block u32 (result 0 a chance ∷ []) ∷ [])
+  pub weights-says : (c : call.WeightsCall) →
+      Says (weights (call.weightsNodes c) (call.weightsChance c) (call.weightsLent c)) (call.weightsResult c) (block u32 (call.weightsLeft c) ∷ [])
+  pub reliability-says : (c : call.RateCall) (s m r : ℕ) → let a = call.rateResult c in
+      Says (reliability (call.rateTally c) (call.rateChance1 c) (call.rateChance2 c) s m r) a
+      (block u32 (call.rateTally c) ∷ block u64 (result 0 a s ∷ []) ∷ block u64 (result 1 a m ∷ []) ∷ block u64 (result 2 a r ∷ []) ∷ [])
+  pub writer-says : (c : call.WriteCall) (k : ℕ) → let a = call.writeResult c in let g = call.writeGiven c in
+      Says (writer g (call.writeLent c) k) a
+      (block u8 (g .nodes) ∷ block u8 (g .arcs) ∷ block u8 (g .rounds) ∷ block u8 (call.writeLeft c) ∷ block u64 (result 0 a k ∷ []) ∷ [])
+  -- opening into seven words (1 to 9, then 15), and lookup by place (1 to 10): the place and length of the part that lookup hands back
+  pub opening-says : (f header : List ℕ) → Says (opening f header) (headerAnswer f (length header)) (block u8 f ∷ block u32 (headerOut f header) ∷ [])
+  pub lookup-says : (f : List ℕ) (r start count : ℕ) → let a = placeAnswer f r in
+      Says (lookup f r start count) a (block u8 f ∷ block u64 (result 0 a start ∷ []) ∷ block u64 (result 1 a count ∷ []) ∷ [])
+  pub lookup-placed : (c : call.LookupCall) (start count : ℕ) → placeAnswer (call.lookupFile c) (call.lookupRound c) ≡ success (start ∷ count ∷ [])
+      → (start + count ≤ length (call.lookupFile c)) × (call.lookupResult c ≡ partAt start count (call.lookupFile c))
+  -- a number other than 0 leaves every lent block as it was
+  pub opening-keeps : (f header : List ℕ) → KeepsUnless0 (opening f header)
+  pub lookup-keeps : (f : List ℕ) (r start count : ℕ) → KeepsUnless0 (lookup f r start count)
+  pub search-keeps : (f : List ℕ) (r : ℕ) (out : List ℕ) (k : ℕ) → KeepsUnless0 (search f r out k)
+  pub series-keeps : (y z out : List ℕ) (k : ℕ) → KeepsUnless0 (series y z out k)
+  pub parallel-keeps : (y z out : List ℕ) (k : ℕ) → KeepsUnless0 (parallel y z out k)
+  pub new-keeps : (n1 n2 : ℕ) (t : List ℕ) → KeepsUnless0 (new n1 n2 t)
+  pub add-keeps : (x t : List ℕ) → KeepsUnless0 (add x t)
+  pub ageing-keeps : (y chance : ℕ) → KeepsUnless0 (ageing y chance)
+  pub weights-keeps : (n p : ℕ) (out : List ℕ) → KeepsUnless0 (weights n p out)
+  pub reliability-keeps : (t : List ℕ) (p1 p2 s m r : ℕ) → KeepsUnless0 (reliability t p1 p2 s m r)
+  pub writer-keeps : (g : Given) (out : List ℕ) (k : ℕ) → KeepsUnless0 (writer g out k)
