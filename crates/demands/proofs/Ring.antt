@@ -20,6 +20,7 @@ use Rattle.tally.specs.Calls.{newOut}
 use Rattle.samples.specs.Table.{ringWith, ringFile, ring, ten, ringTally, table}
 use Rattle.runs.specs.Arguments.{Small, u8, All}
 use Rattle.runs.specs.Run.{Holds, Ends}
+use Rattle.runs.proofs.General.{told}
 use Rattle.kinds.specs.Kinds as call
 use Rattle.plan.specs.Calls.{Vain, search, Searched, Row, Side, Built}
 use Rattle.survival.specs.Calls.{Tallied, AllSearched, Rating}
@@ -72,10 +73,10 @@ bytes-by (x ∷ l) t = let k = T-and (ltb x 256) (allBytes l) .0 t in (ltb-true 
 
 -- a run answers, and leaves in its slice, what the definitions say of its arguments
 run-answer : (f : List ℕ) (r : ℕ) (s : List ℕ) (e : Ends [] (call.searchRun f r s)) → call.searchResult (e .made) ≡ searchAnswer f r (length s)
-run-answer f r s e = e .made .kept .0 ∙ ap (λ a. searchAnswer (a .0 .now) (a .1 .0) (length (a .1 .1 .0 .now))) (e .args-are)
+run-answer f r s e = told (call.searchRun f r s) e .kept .0
 
 run-left : (f : List ℕ) (r : ℕ) (s : List ℕ) (e : Ends [] (call.searchRun f r s)) → Holds (e .memory) u8 3 0 (searchOut f r s)
-run-left f r s e = subst (Holds (e .memory) u8 3 0) (e .made .kept .1 ∙ ap (λ a. searchOut (a .0 .now) (a .1 .0) (a .1 .1 .0 .now)) (e .args-are)) (e .memory-is .1 .0)
+run-left f r s e = let d = told (call.searchRun f r s) e in subst (Holds (e .memory) u8 3 0) (d .kept .1) (d .memory-is .1 .0)
 
 ran : ∥ ((e : Ends [] (call.searchRun ringFile 0 ten)) × (call.searchResult (e .made) ≡ success (9 ∷ [])) × Holds (e .memory) u8 3 0 (2 ∷ 2 ∷ 3 ∷ 3 ∷ 1 ∷ 2 ∷ 2 ∷ 1 ∷ 3 ∷ 9 ∷ [])) ∥₁
 unfolding allBytes

@@ -18,10 +18,10 @@ use Rattle.tally.specs.Calls.{newAnswer, added, addAnswer}
 use Rattle.chance.specs.Chance.{weights as weightsOf}
 use Rattle.weights.specs.Calls.{ageingAnswer, weightsAnswer}
 use Rattle.reliability.specs.Calls.{rateAnswer}
-use Rattle.medlarbrace.specs.Interface.{code, result, headerAnswer, placeAnswer}
+use Rattle.medlarbrace.specs.Interface.{result, headerAnswer, placeAnswer}
 use Rattle.medlarbrace.proofs.Opened.{round-placed}
 use Rattle.runs.specs.Arguments.{u8, u32, u64, Block, block, lent}
-use Rattle.runs.specs.Run.{at, Held, Run, Ends, AlwaysEnds}
+use Rattle.runs.specs.Run.{at, Held, Run, AlwaysEnds}
 use Rattle.runs.proofs.General.{always, told}
 use Rattle.kinds.specs.Kinds as call
 use Rattle.medlarbrace.proofs.files.medlarbrace_open.Reads as opening-reads
