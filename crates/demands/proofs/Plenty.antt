@@ -24,7 +24,7 @@ use Rattle.tally.specs.Adds.{Tallies}
 use Rattle.reliability.specs.Calls.{rateAnswer}
 use Rattle.writer.specs.Writer.{Given, studyBytes, writeTests, writeAnswer, writeOut}
 use Rattle.plan.specs.Plan.{Plan, searched, series, parallel, PlanSized}
-use Rattle.plan.specs.Calls.{Through, none, Handed, Searched, Row, Side, Built}
+use Rattle.plan.specs.Calls.{Through, none, Handed, Searched, RowJoined, SideJoined, Built}
 use Rattle.plan.proofs.Plans.{sound, one-size}
 use Rattle.survival.specs.Calls.{Begun, Added, Tallied, AllSearched, Rating}
 use Rattle.survival.proofs.Tallies.{run, as-many}
@@ -62,7 +62,7 @@ searched-by f r s n o =
       handed = at-once (roundTests f r ++ room (searchBytes f r) s) (searchBytes f r) s (call.searchLeft c) n (call.searchResult c) a l o;
     }
 
-pub row-by : (y z s : List ℕ) (n : ℕ) → seriesAnswer y z (length s) ≡ success (n ∷ []) → Row y z (seriesBytes y z)
+pub row-by : (y z s : List ℕ) (n : ℕ) → seriesAnswer y z (length s) ≡ success (n ∷ []) → RowJoined y z (seriesBytes y z)
 row-by y z s n o =
     let m = row-made y z s in
     let c = m .0 in
@@ -75,7 +75,7 @@ row-by y z s n o =
       handed = at-once (joinTests y z (seriesBytes y z) (length s)) (seriesBytes y z) s (call.seriesLeft c) n (call.seriesResult c) a l o;
     }
 
-pub side-by : (y z s : List ℕ) (n : ℕ) → parallelAnswer y z (length s) ≡ success (n ∷ []) → Side y z (parallelBytes y z)
+pub side-by : (y z s : List ℕ) (n : ℕ) → parallelAnswer y z (length s) ≡ success (n ∷ []) → SideJoined y z (parallelBytes y z)
 side-by y z s n o =
     let m = side-made y z s in
     let c = m .0 in

@@ -22,7 +22,7 @@ use Rattle.runs.specs.Arguments.{Small, u8, All}
 use Rattle.runs.specs.Run.{Holds, Ends}
 use Rattle.runs.proofs.General.{told}
 use Rattle.kinds.specs.Kinds as call
-use Rattle.plan.specs.Calls.{Vain, search, Searched, Row, Side, Built}
+use Rattle.plan.specs.Calls.{Vain, search, Searched, RowJoined, SideJoined, Built}
 use Rattle.survival.specs.Calls.{Tallied, AllSearched, Rating}
 use Rattle.demands.specs.Terms.{Wrote}
 use Rattle.demands.specs.Ring.{ringPlan, ringRounds, eight, RingClaims}
@@ -55,11 +55,11 @@ built = (ring, ring, found, (ring, ring, found, found, ring-side), ring-row)
     side-bytes : parallelBytes ring ring ≡ ring
     side-bytes = refl
 
-    ring-row : Row ring ring ring
-    ring-row = subst (Row ring ring) row-bytes (row-by ring ring ten 9 refl)
+    ring-row : RowJoined ring ring ring
+    ring-row = subst (RowJoined ring ring) row-bytes (row-by ring ring ten 9 refl)
 
-    ring-side : Side ring ring ring
-    ring-side = subst (Side ring ring) side-bytes (side-by ring ring ten 9 refl)
+    ring-side : SideJoined ring ring ring
+    ring-side = subst (SideJoined ring ring) side-bytes (side-by ring ring ten 9 refl)
 
 -- ---- the runs
 allBytes : List ℕ → Bool

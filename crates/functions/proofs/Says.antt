@@ -15,7 +15,7 @@ use Rattle.compose.specs.Compose.{seriesAnswer, seriesBytes, parallelAnswer, pa
 use Rattle.writer.specs.Writer.{Given, writeAnswer, studyBytes}
 use Rattle.tally.specs.Cells.{tallyOf}
 use Rattle.tally.specs.Calls.{newAnswer, added, addAnswer}
-use Rattle.chance.specs.Chance.{weights as weightsOf}
+use Rattle.chance.specs.Chance.{weights}
 use Rattle.weights.specs.Calls.{ageingAnswer, weightsAnswer}
 use Rattle.reliability.specs.Calls.{rateAnswer}
 use Rattle.medlarbrace.specs.Interface.{result, headerAnswer, placeAnswer}
@@ -57,7 +57,7 @@ use Rattle.medlarbrace.proofs.tallies.medlarbrace_reliability.Symbol as reliabi
 use Rattle.medlarbrace.proofs.files.medlarbrace_write.Reads as writer-reads
 use Rattle.medlarbrace.proofs.files.medlarbrace_write.Met as writer-met
 use Rattle.medlarbrace.proofs.files.medlarbrace_write.Symbol as writer-symbol
-use Rattle.functions.specs.Functions.{opening, lookup, search, series, parallel, new, add, ageing, weights, reliability, writer, Says, KeepsUnless0, EveryFunction}
+use Rattle.functions.specs.Functions.{openFunction, roundFunction, searchFunction, seriesFunction, parallelFunction, newFunction, addFunction, ageingFunction, weightsFunction, reliabilityFunction, writeFunction, Says, KeepsUnless0, EveryFunction}
 
 -- the machine's value is the number that was returned
 returned : {v : Val} {n m : ℕ} → v ∷ [] ≡ vint w32 n ∷ [] → n ≡ m → v ≡ vint w32 m
@@ -73,151 +73,151 @@ keeps c left same (success v) says others e h = absurd (h (says others e .0))
 keeps c left same (refused n) says others e h = subst (Held (e .memory) (at others)) (same n) (says others e .1)
 
 -- ---- medlarbrace_open
-opening-ends : (f header : List ℕ) → AlwaysEnds (opening f header)
+opening-ends : (f header : List ℕ) → AlwaysEnds (openFunction f header)
 unfolding tablesOf
 opening-ends f header =
-    always (opening f header) (opening-reads.known w₀ (λ i. opening-symbol.routine) anyName opening-symbol.routine refl (opening-met.met (w₀ .𝓤) (w₀ .H) (w₀ .𝓜) (w₀ .𝓖) (w₀ .𝓡))) (λ κs. tt) (λ b κs γs. tt)
+    always (openFunction f header) (opening-reads.known w₀ (λ i. opening-symbol.routine) anyName opening-symbol.routine refl (opening-met.met (w₀ .𝓤) (w₀ .H) (w₀ .𝓜) (w₀ .𝓖) (w₀ .𝓡))) (λ κs. tt) (λ b κs γs. tt)
 
 abbrev opening-left : List ℕ → List ℕ → Outcome → List Block
 opening-left f header a = block u8 f ∷ block u32 (filled a (openValues f) header) ∷ []
 
-opening-said : (f header : List ℕ) → let a = headerAnswer f (length header) in Says (opening f header) a (opening-left f header a)
+opening-said : (f header : List ℕ) → let a = headerAnswer f (length header) in Says (openFunction f header) a (opening-left f header a)
 opening-said f header others e =
-    let d = told (opening f header) e in
+    let d = told (openFunction f header) e in
     (returned (e .value-is .0) (d .kept .0), rw (← d .kept .1) (d .memory-is))
 
 -- ---- medlarbrace_round
-lookup-ends : (f : List ℕ) (r start count : ℕ) → AlwaysEnds (lookup f r start count)
+lookup-ends : (f : List ℕ) (r start count : ℕ) → AlwaysEnds (roundFunction f r start count)
 unfolding tablesOf
 lookup-ends f r start count =
-    always (lookup f r start count) (lookup-reads.known w₀ (λ i. lookup-symbol.routine) anyName lookup-symbol.routine refl (lookup-met.met (w₀ .𝓤) (w₀ .H) (w₀ .𝓜) (w₀ .𝓖) (w₀ .𝓡))) (λ κs. tt) (λ b κs γs. tt)
+    always (roundFunction f r start count) (lookup-reads.known w₀ (λ i. lookup-symbol.routine) anyName lookup-symbol.routine refl (lookup-met.met (w₀ .𝓤) (w₀ .H) (w₀ .𝓜) (w₀ .𝓖) (w₀ .𝓡))) (λ κs. tt) (λ b κs γs. tt)
 
 abbrev lookup-left : List ℕ → ℕ → ℕ → ℕ → Outcome → List Block
 lookup-left f r start count a = block u8 f ∷ block u64 (result 0 a start ∷ []) ∷ block u64 (result 1 a count ∷ []) ∷ []
 
-lookup-said : (f : List ℕ) (r start count : ℕ) → let a = placeAnswer f r in Says (lookup f r start count) a (lookup-left f r start count a)
+lookup-said : (f : List ℕ) (r start count : ℕ) → let a = placeAnswer f r in Says (roundFunction f r start count) a (lookup-left f r start count a)
 lookup-said f r start count others e =
-    let d = told (lookup f r start count) e in
+    let d = told (roundFunction f r start count) e in
     (returned (e .value-is .0) (d .kept .0), rw (← d .kept .1 .0, ← d .kept .1 .1) (d .memory-is))
 
 -- ---- medlarbrace_search
-search-ends : (f : List ℕ) (r : ℕ) (out : List ℕ) (k : ℕ) → AlwaysEnds (search f r out k)
+search-ends : (f : List ℕ) (r : ℕ) (out : List ℕ) (k : ℕ) → AlwaysEnds (searchFunction f r out k)
 unfolding tablesOf
 search-ends f r out k =
-    always (search f r out k) (search-reads.known w₀ (λ i. search-symbol.routine) anyName search-symbol.routine refl (search-met.met (w₀ .𝓤) (w₀ .H) (w₀ .𝓜) (w₀ .𝓖) (w₀ .𝓡))) (λ κs. tt) (λ b κs γs. tt)
+    always (searchFunction f r out k) (search-reads.known w₀ (λ i. search-symbol.routine) anyName search-symbol.routine refl (search-met.met (w₀ .𝓤) (w₀ .H) (w₀ .𝓜) (w₀ .𝓖) (w₀ .𝓡))) (λ κs. tt) (λ b κs γs. tt)
 
 abbrev search-left : List ℕ → ℕ → List ℕ → Outcome → List Block
 search-left f k s a = block u8 f ∷ block u8 s ∷ block u64 (result 0 a k ∷ []) ∷ []
 
-search-said : (f : List ℕ) (r : ℕ) (out : List ℕ) (k : ℕ) → let a = searchAnswer f r (length out) in Says (search f r out k) a (search-left f k (filled a (searchBytes f r) out) a)
+search-said : (f : List ℕ) (r : ℕ) (out : List ℕ) (k : ℕ) → let a = searchAnswer f r (length out) in Says (searchFunction f r out k) a (search-left f k (filled a (searchBytes f r) out) a)
 search-said f r out k others e =
-    let d = told (search f r out k) e in
+    let d = told (searchFunction f r out k) e in
     (returned (e .value-is .0) (d .kept .0), rw (← d .kept .1 .0, ← d .kept .1 .1) (d .memory-is))
 
 -- ---- medlarbrace_series
-series-ends : (y z out : List ℕ) (k : ℕ) → AlwaysEnds (series y z out k)
+series-ends : (y z out : List ℕ) (k : ℕ) → AlwaysEnds (seriesFunction y z out k)
 unfolding tablesOf
 series-ends y z out k =
-    always (series y z out k) (series-reads.known w₀ (λ i. series-symbol.routine) anyName series-symbol.routine refl (series-met.met (w₀ .𝓤) (w₀ .H) (w₀ .𝓜) (w₀ .𝓖) (w₀ .𝓡))) (λ κs. tt) (λ b κs γs. tt)
+    always (seriesFunction y z out k) (series-reads.known w₀ (λ i. series-symbol.routine) anyName series-symbol.routine refl (series-met.met (w₀ .𝓤) (w₀ .H) (w₀ .𝓜) (w₀ .𝓖) (w₀ .𝓡))) (λ κs. tt) (λ b κs γs. tt)
 
 abbrev series-left : List ℕ → List ℕ → ℕ → List ℕ → Outcome → List Block
 series-left y z k s a = block u8 y ∷ block u8 z ∷ block u8 s ∷ block u64 (result 0 a k ∷ []) ∷ []
 
-series-said : (y z out : List ℕ) (k : ℕ) → let a = seriesAnswer y z (length out) in Says (series y z out k) a (series-left y z k (filled a (seriesBytes y z) out) a)
+series-said : (y z out : List ℕ) (k : ℕ) → let a = seriesAnswer y z (length out) in Says (seriesFunction y z out k) a (series-left y z k (filled a (seriesBytes y z) out) a)
 series-said y z out k others e =
-    let d = told (series y z out k) e in
+    let d = told (seriesFunction y z out k) e in
     (returned (e .value-is .0) (d .kept .0), rw (← d .kept .1 .0, ← d .kept .1 .1) (d .memory-is))
 
 -- ---- medlarbrace_parallel
-parallel-ends : (y z out : List ℕ) (k : ℕ) → AlwaysEnds (parallel y z out k)
+parallel-ends : (y z out : List ℕ) (k : ℕ) → AlwaysEnds (parallelFunction y z out k)
 unfolding tablesOf
 parallel-ends y z out k =
-    always (parallel y z out k) (parallel-reads.known w₀ (λ i. parallel-symbol.routine) anyName parallel-symbol.routine refl (parallel-met.met (w₀ .𝓤) (w₀ .H) (w₀ .𝓜) (w₀ .𝓖) (w₀ .𝓡))) (λ κs. tt) (λ b κs γs. tt)
+    always (parallelFunction y z out k) (parallel-reads.known w₀ (λ i. parallel-symbol.routine) anyName parallel-symbol.routine refl (parallel-met.met (w₀ .𝓤) (w₀ .H) (w₀ .𝓜) (w₀ .𝓖) (w₀ .𝓡))) (λ κs. tt) (λ b κs γs. tt)
 
-parallel-said : (y z out : List ℕ) (k : ℕ) → let a = parallelAnswer y z (length out) in Says (parallel y z out k) a (series-left y z k (filled a (parallelBytes y z) out) a)
+parallel-said : (y z out : List ℕ) (k : ℕ) → let a = parallelAnswer y z (length out) in Says (parallelFunction y z out k) a (series-left y z k (filled a (parallelBytes y z) out) a)
 parallel-said y z out k others e =
-    let d = told (parallel y z out k) e in
+    let d = told (parallelFunction y z out k) e in
     (returned (e .value-is .0) (d .kept .0), rw (← d .kept .1 .0, ← d .kept .1 .1) (d .memory-is))
 
 -- ---- medlarbrace_tally_new
-new-ends : (n1 n2 : ℕ) (t : List ℕ) → AlwaysEnds (new n1 n2 t)
+new-ends : (n1 n2 : ℕ) (t : List ℕ) → AlwaysEnds (newFunction n1 n2 t)
 unfolding tablesOf
 new-ends n1 n2 t =
-    always (new n1 n2 t) (new-reads.known w₀ (λ i. new-symbol.routine) anyName new-symbol.routine refl (new-met.met (w₀ .𝓤) (w₀ .H) (w₀ .𝓜) (w₀ .𝓖) (w₀ .𝓡))) (λ κs. tt) (λ b κs γs. tt)
+    always (newFunction n1 n2 t) (new-reads.known w₀ (λ i. new-symbol.routine) anyName new-symbol.routine refl (new-met.met (w₀ .𝓤) (w₀ .H) (w₀ .𝓜) (w₀ .𝓖) (w₀ .𝓡))) (λ κs. tt) (λ b κs γs. tt)
 
 abbrev new-left : List ℕ → Outcome → List Block
 new-left s a = block u32 s ∷ []
 
-new-said : (n1 n2 : ℕ) (t : List ℕ) → let a = newAnswer n1 n2 (length t) in Says (new n1 n2 t) a (new-left (filled a (tallyOf n1 n2 0 (λ l1 l2. 0)) t) a)
+new-said : (n1 n2 : ℕ) (t : List ℕ) → let a = newAnswer n1 n2 (length t) in Says (newFunction n1 n2 t) a (new-left (filled a (tallyOf n1 n2 0 (λ l1 l2. 0)) t) a)
 new-said n1 n2 t others e =
-    let d = told (new n1 n2 t) e in
+    let d = told (newFunction n1 n2 t) e in
     (returned (e .value-is .0) (d .kept .0), rw (← d .kept .1) (d .memory-is))
 
 -- ---- medlarbrace_tally_add
-add-ends : (x t : List ℕ) → AlwaysEnds (add x t)
+add-ends : (x t : List ℕ) → AlwaysEnds (addFunction x t)
 unfolding tablesOf
 add-ends x t =
-    always (add x t) (add-reads.known w₀ (λ i. add-symbol.routine) anyName add-symbol.routine refl (add-met.met (w₀ .𝓤) (w₀ .H) (w₀ .𝓜) (w₀ .𝓖) (w₀ .𝓡))) (λ κs. tt) (λ b κs γs. tt)
+    always (addFunction x t) (add-reads.known w₀ (λ i. add-symbol.routine) anyName add-symbol.routine refl (add-met.met (w₀ .𝓤) (w₀ .H) (w₀ .𝓜) (w₀ .𝓖) (w₀ .𝓡))) (λ κs. tt) (λ b κs γs. tt)
 
 abbrev add-left : List ℕ → List ℕ → Outcome → List Block
 add-left x s a = block u8 x ∷ block u32 s ∷ []
 
-add-said : (x t : List ℕ) → let a = addAnswer x t in Says (add x t) a (add-left x (filled a (added x t) t) a)
+add-said : (x t : List ℕ) → let a = addAnswer x t in Says (addFunction x t) a (add-left x (filled a (added x t) t) a)
 add-said x t others e =
-    let d = told (add x t) e in
+    let d = told (addFunction x t) e in
     (returned (e .value-is .0) (d .kept .0), rw (← d .kept .1) (d .memory-is))
 
 -- ---- medlarbrace_ageing
-ageing-ends : (y chance : ℕ) → AlwaysEnds (ageing y chance)
+ageing-ends : (y chance : ℕ) → AlwaysEnds (ageingFunction y chance)
 unfolding tablesOf
 ageing-ends y chance =
-    always (ageing y chance) (ageing-reads.known w₀ (λ i. ageing-symbol.routine) anyName ageing-symbol.routine refl (ageing-met.met (w₀ .𝓤) (w₀ .H) (w₀ .𝓜) (w₀ .𝓖) (w₀ .𝓡))) (λ κs. tt) (λ b κs γs. tt)
+    always (ageingFunction y chance) (ageing-reads.known w₀ (λ i. ageing-symbol.routine) anyName ageing-symbol.routine refl (ageing-met.met (w₀ .𝓤) (w₀ .H) (w₀ .𝓜) (w₀ .𝓖) (w₀ .𝓡))) (λ κs. tt) (λ b κs γs. tt)
 
 abbrev ageing-left : ℕ → ℕ → Outcome → List Block
 ageing-left y chance a = block u32 (result 0 a chance ∷ []) ∷ []
 
-ageing-said : (y chance : ℕ) → let a = ageingAnswer y in Says (ageing y chance) a (ageing-left y chance a)
+ageing-said : (y chance : ℕ) → let a = ageingAnswer y in Says (ageingFunction y chance) a (ageing-left y chance a)
 ageing-said y chance others e =
-    let d = told (ageing y chance) e in
+    let d = told (ageingFunction y chance) e in
     (returned (e .value-is .0) (d .kept .0), rw (← d .kept .1) (d .memory-is))
 
 -- ---- medlarbrace_weights
-weights-ends : (n p : ℕ) (out : List ℕ) → AlwaysEnds (weights n p out)
+weights-ends : (n p : ℕ) (out : List ℕ) → AlwaysEnds (weightsFunction n p out)
 unfolding tablesOf
 weights-ends n p out =
-    always (weights n p out) (weights-reads.known w₀ (λ i. weights-symbol.routine) anyName weights-symbol.routine refl (weights-met.met (w₀ .𝓤) (w₀ .H) (w₀ .𝓜) (w₀ .𝓖) (w₀ .𝓡))) (λ κs. tt) (λ b κs γs. tt)
+    always (weightsFunction n p out) (weights-reads.known w₀ (λ i. weights-symbol.routine) anyName weights-symbol.routine refl (weights-met.met (w₀ .𝓤) (w₀ .H) (w₀ .𝓜) (w₀ .𝓖) (w₀ .𝓡))) (λ κs. tt) (λ b κs γs. tt)
 
-weights-said : (n p : ℕ) (out : List ℕ) → let a = weightsAnswer n p (length out) in Says (weights n p out) a (new-left (filled a (weightsOf p n) out) a)
+weights-said : (n p : ℕ) (out : List ℕ) → let a = weightsAnswer n p (length out) in Says (weightsFunction n p out) a (new-left (filled a (weights p n) out) a)
 weights-said n p out others e =
-    let d = told (weights n p out) e in
+    let d = told (weightsFunction n p out) e in
     (returned (e .value-is .0) (d .kept .0), rw (← d .kept .1) (d .memory-is))
 
 -- ---- medlarbrace_reliability
-reliability-ends : (t : List ℕ) (p1 p2 s m r : ℕ) → AlwaysEnds (reliability t p1 p2 s m r)
+reliability-ends : (t : List ℕ) (p1 p2 s m r : ℕ) → AlwaysEnds (reliabilityFunction t p1 p2 s m r)
 unfolding tablesOf
 reliability-ends t p1 p2 s m r =
-    always (reliability t p1 p2 s m r) (reliability-reads.known w₀ (λ i. reliability-symbol.routine) anyName reliability-symbol.routine refl (reliability-met.met (w₀ .𝓤) (w₀ .H) (w₀ .𝓜) (w₀ .𝓖) (w₀ .𝓡))) (λ κs. tt) (λ b κs γs. tt)
+    always (reliabilityFunction t p1 p2 s m r) (reliability-reads.known w₀ (λ i. reliability-symbol.routine) anyName reliability-symbol.routine refl (reliability-met.met (w₀ .𝓤) (w₀ .H) (w₀ .𝓜) (w₀ .𝓖) (w₀ .𝓡))) (λ κs. tt) (λ b κs γs. tt)
 
 abbrev reliability-left : List ℕ → ℕ → ℕ → ℕ → ℕ → ℕ → Outcome → List Block
 reliability-left t p1 p2 s m r a = block u32 t ∷ block u64 (result 0 a s ∷ []) ∷ block u64 (result 1 a m ∷ []) ∷ block u64 (result 2 a r ∷ []) ∷ []
 
-reliability-said : (t : List ℕ) (p1 p2 s m r : ℕ) → let a = rateAnswer t p1 p2 in Says (reliability t p1 p2 s m r) a (reliability-left t p1 p2 s m r a)
+reliability-said : (t : List ℕ) (p1 p2 s m r : ℕ) → let a = rateAnswer t p1 p2 in Says (reliabilityFunction t p1 p2 s m r) a (reliability-left t p1 p2 s m r a)
 reliability-said t p1 p2 s m r others e =
-    let d = told (reliability t p1 p2 s m r) e in
+    let d = told (reliabilityFunction t p1 p2 s m r) e in
     (returned (e .value-is .0) (d .kept .0), rw (← d .kept .1 .0, ← d .kept .1 .1 .0, ← d .kept .1 .1 .1) (d .memory-is))
 
 -- ---- medlarbrace_write
-writer-ends : (g : Given) (out : List ℕ) (k : ℕ) → AlwaysEnds (writer g out k)
+writer-ends : (g : Given) (out : List ℕ) (k : ℕ) → AlwaysEnds (writeFunction g out k)
 unfolding tablesOf
 writer-ends g out k =
-    always (writer g out k) (writer-reads.known w₀ (λ i. writer-symbol.routine) anyName writer-symbol.routine refl (writer-met.met (w₀ .𝓤) (w₀ .H) (w₀ .𝓜) (w₀ .𝓖) (w₀ .𝓡))) (λ κs. tt) (λ b κs γs. tt)
+    always (writeFunction g out k) (writer-reads.known w₀ (λ i. writer-symbol.routine) anyName writer-symbol.routine refl (writer-met.met (w₀ .𝓤) (w₀ .H) (w₀ .𝓜) (w₀ .𝓖) (w₀ .𝓡))) (λ κs. tt) (λ b κs γs. tt)
 
 abbrev writer-left : Given → ℕ → List ℕ → Outcome → List Block
 writer-left g k s a = block u8 (g .nodes) ∷ block u8 (g .arcs) ∷ block u8 (g .rounds) ∷ block u8 s ∷ block u64 (result 0 a k ∷ []) ∷ []
 
-writer-said : (g : Given) (out : List ℕ) (k : ℕ) → let a = writeAnswer g (length out) in Says (writer g out k) a (writer-left g k (filled a (studyBytes g) out) a)
+writer-said : (g : Given) (out : List ℕ) (k : ℕ) → let a = writeAnswer g (length out) in Says (writeFunction g out k) a (writer-left g k (filled a (studyBytes g) out) a)
 writer-said g out k others e =
-    let d = told (writer g out k) e in
+    let d = told (writeFunction g out k) e in
     (returned (e .value-is .0) (d .kept .0), rw (← d .kept .1 .0, ← d .kept .1 .1) (d .memory-is))
 
 -- THE THEOREM
@@ -235,27 +235,27 @@ every-function =
       weights-ends = weights-ends;
       reliability-ends = reliability-ends;
       writer-ends = writer-ends;
-      search-says = λ c k. likewise (search (call.searchFile c) (call.searchRound c) (call.searchLent c) k) (search-left (call.searchFile c) k) (call.searchResult c) _ (call.searchLeft c) _ (c .kept .0) (c .kept .1) (search-said (call.searchFile c) (call.searchRound c) (call.searchLent c) k);
-      series-says = λ c k. likewise (series (call.seriesFirst c) (call.seriesSecond c) (call.seriesLent c) k) (series-left (call.seriesFirst c) (call.seriesSecond c) k) (call.seriesResult c) _ (call.seriesLeft c) _ (c .kept .0) (c .kept .1) (series-said (call.seriesFirst c) (call.seriesSecond c) (call.seriesLent c) k);
-      parallel-says = λ c k. likewise (parallel (call.parallelFirst c) (call.parallelSecond c) (call.parallelLent c) k) (series-left (call.parallelFirst c) (call.parallelSecond c) k) (call.parallelResult c) _ (call.parallelLeft c) _ (c .kept .0) (c .kept .1) (parallel-said (call.parallelFirst c) (call.parallelSecond c) (call.parallelLent c) k);
-      new-says = λ c. likewise (new (call.newSize1 c) (call.newSize2 c) (call.newLent c)) new-left (call.newResult c) _ (call.newLeft c) _ (c .kept .0) (c .kept .1) (new-said (call.newSize1 c) (call.newSize2 c) (call.newLent c));
-      add-says = λ c. likewise (add (call.addRecord c) (call.addLent c)) (add-left (call.addRecord c)) (call.addResult c) _ (call.addLeft c) _ (c .kept .0) (c .kept .1) (add-said (call.addRecord c) (call.addLent c));
+      search-says = λ c k. likewise (searchFunction (call.searchFile c) (call.searchRound c) (call.searchLent c) k) (search-left (call.searchFile c) k) (call.searchResult c) _ (call.searchLeft c) _ (c .kept .0) (c .kept .1) (search-said (call.searchFile c) (call.searchRound c) (call.searchLent c) k);
+      series-says = λ c k. likewise (seriesFunction (call.seriesFirst c) (call.seriesSecond c) (call.seriesLent c) k) (series-left (call.seriesFirst c) (call.seriesSecond c) k) (call.seriesResult c) _ (call.seriesLeft c) _ (c .kept .0) (c .kept .1) (series-said (call.seriesFirst c) (call.seriesSecond c) (call.seriesLent c) k);
+      parallel-says = λ c k. likewise (parallelFunction (call.parallelFirst c) (call.parallelSecond c) (call.parallelLent c) k) (series-left (call.parallelFirst c) (call.parallelSecond c) k) (call.parallelResult c) _ (call.parallelLeft c) _ (c .kept .0) (c .kept .1) (parallel-said (call.parallelFirst c) (call.parallelSecond c) (call.parallelLent c) k);
+      new-says = λ c. likewise (newFunction (call.newSize1 c) (call.newSize2 c) (call.newLent c)) new-left (call.newResult c) _ (call.newLeft c) _ (c .kept .0) (c .kept .1) (new-said (call.newSize1 c) (call.newSize2 c) (call.newLent c));
+      add-says = λ c. likewise (addFunction (call.addRecord c) (call.addLent c)) (add-left (call.addRecord c)) (call.addResult c) _ (call.addLeft c) _ (c .kept .0) (c .kept .1) (add-said (call.addRecord c) (call.addLent c));
       ageing-says = λ c chance. rw (c .kept) (ageing-said (call.ageingAge c) chance);
-      weights-says = λ c. likewise (weights (call.weightsNodes c) (call.weightsChance c) (call.weightsLent c)) new-left (call.weightsResult c) _ (call.weightsLeft c) _ (c .kept .0) (c .kept .1) (weights-said (call.weightsNodes c) (call.weightsChance c) (call.weightsLent c));
+      weights-says = λ c. likewise (weightsFunction (call.weightsNodes c) (call.weightsChance c) (call.weightsLent c)) new-left (call.weightsResult c) _ (call.weightsLeft c) _ (c .kept .0) (c .kept .1) (weights-said (call.weightsNodes c) (call.weightsChance c) (call.weightsLent c));
       reliability-says = λ c s m r. rw (c .kept) (reliability-said (call.rateTally c) (call.rateChance1 c) (call.rateChance2 c) s m r);
-      writer-says = λ c k. likewise (writer (call.writeGiven c) (call.writeLent c) k) (writer-left (call.writeGiven c) k) (call.writeResult c) _ (call.writeLeft c) _ (c .kept .0) (c .kept .1) (writer-said (call.writeGiven c) (call.writeLent c) k);
+      writer-says = λ c k. likewise (writeFunction (call.writeGiven c) (call.writeLent c) k) (writer-left (call.writeGiven c) k) (call.writeResult c) _ (call.writeLeft c) _ (c .kept .0) (c .kept .1) (writer-said (call.writeGiven c) (call.writeLent c) k);
       opening-says = opening-said;
       lookup-says = lookup-said;
       lookup-placed = λ c start count h. let p = round-placed (call.lookupFile c) (call.lookupRound c) start count h in (p .0, c .kept .0 ∙ sym (p .1));
-      opening-keeps = λ f header. keeps (opening f header) (opening-left f header) (λ i. refl) (headerAnswer f (length header)) (opening-said f header);
-      lookup-keeps = λ f r start count. keeps (lookup f r start count) (lookup-left f r start count) (λ i. refl) (placeAnswer f r) (lookup-said f r start count);
-      search-keeps = λ f r out k. keeps (search f r out k) (λ a. search-left f k (filled a (searchBytes f r) out) a) (λ i. refl) (searchAnswer f r (length out)) (search-said f r out k);
-      series-keeps = λ y z out k. keeps (series y z out k) (λ a. series-left y z k (filled a (seriesBytes y z) out) a) (λ i. refl) (seriesAnswer y z (length out)) (series-said y z out k);
-      parallel-keeps = λ y z out k. keeps (parallel y z out k) (λ a. series-left y z k (filled a (parallelBytes y z) out) a) (λ i. refl) (parallelAnswer y z (length out)) (parallel-said y z out k);
-      new-keeps = λ n1 n2 t. keeps (new n1 n2 t) (λ a. new-left (filled a (tallyOf n1 n2 0 (λ l1 l2. 0)) t) a) (λ i. refl) (newAnswer n1 n2 (length t)) (new-said n1 n2 t);
-      add-keeps = λ x t. keeps (add x t) (λ a. add-left x (filled a (added x t) t) a) (λ i. refl) (addAnswer x t) (add-said x t);
-      ageing-keeps = λ y chance. keeps (ageing y chance) (ageing-left y chance) (λ i. refl) (ageingAnswer y) (ageing-said y chance);
-      weights-keeps = λ n p out. keeps (weights n p out) (λ a. new-left (filled a (weightsOf p n) out) a) (λ i. refl) (weightsAnswer n p (length out)) (weights-said n p out);
-      reliability-keeps = λ t p1 p2 s m r. keeps (reliability t p1 p2 s m r) (reliability-left t p1 p2 s m r) (λ i. refl) (rateAnswer t p1 p2) (reliability-said t p1 p2 s m r);
-      writer-keeps = λ g out k. keeps (writer g out k) (λ a. writer-left g k (filled a (studyBytes g) out) a) (λ i. refl) (writeAnswer g (length out)) (writer-said g out k);
+      opening-keeps = λ f header. keeps (openFunction f header) (opening-left f header) (λ i. refl) (headerAnswer f (length header)) (opening-said f header);
+      lookup-keeps = λ f r start count. keeps (roundFunction f r start count) (lookup-left f r start count) (λ i. refl) (placeAnswer f r) (lookup-said f r start count);
+      search-keeps = λ f r out k. keeps (searchFunction f r out k) (λ a. search-left f k (filled a (searchBytes f r) out) a) (λ i. refl) (searchAnswer f r (length out)) (search-said f r out k);
+      series-keeps = λ y z out k. keeps (seriesFunction y z out k) (λ a. series-left y z k (filled a (seriesBytes y z) out) a) (λ i. refl) (seriesAnswer y z (length out)) (series-said y z out k);
+      parallel-keeps = λ y z out k. keeps (parallelFunction y z out k) (λ a. series-left y z k (filled a (parallelBytes y z) out) a) (λ i. refl) (parallelAnswer y z (length out)) (parallel-said y z out k);
+      new-keeps = λ n1 n2 t. keeps (newFunction n1 n2 t) (λ a. new-left (filled a (tallyOf n1 n2 0 (λ l1 l2. 0)) t) a) (λ i. refl) (newAnswer n1 n2 (length t)) (new-said n1 n2 t);
+      add-keeps = λ x t. keeps (addFunction x t) (λ a. add-left x (filled a (added x t) t) a) (λ i. refl) (addAnswer x t) (add-said x t);
+      ageing-keeps = λ y chance. keeps (ageingFunction y chance) (ageing-left y chance) (λ i. refl) (ageingAnswer y) (ageing-said y chance);
+      weights-keeps = λ n p out. keeps (weightsFunction n p out) (λ a. new-left (filled a (weights p n) out) a) (λ i. refl) (weightsAnswer n p (length out)) (weights-said n p out);
+      reliability-keeps = λ t p1 p2 s m r. keeps (reliabilityFunction t p1 p2 s m r) (reliability-left t p1 p2 s m r) (λ i. refl) (rateAnswer t p1 p2) (reliability-said t p1 p2 s m r);
+      writer-keeps = λ g out k. keeps (writeFunction g out k) (λ a. writer-left g k (filled a (studyBytes g) out) a) (λ i. refl) (writeAnswer g (length out)) (writer-said g out k);
     }

@@ -50,62 +50,62 @@ use Rattle.medlarbrace.proofs.files.medlarbrace_write.Symbol as writer-symbol
 
 -- ---- THE FUNCTIONS with their arguments; k is what `written` leads to at the call
 -- medlarbrace_open(file, header)
-abbrev pub opening : List ℕ → List ℕ → Run
-opening f header =
+abbrev pub openFunction : List ℕ → List ℕ → Run
+openFunction f header =
     run 2 (shared u8 0 tt f ∷ mutable u32 1 tt header ∷ [])
     (value opening-kinds.r) opening-reads.Asked opening-reads.Learnt opening-symbol.routine
 
 -- medlarbrace_round(file, round, start, count)
-abbrev pub lookup : List ℕ → ℕ → ℕ → ℕ → Run
-lookup f r start count =
+abbrev pub roundFunction : List ℕ → ℕ → ℕ → ℕ → Run
+roundFunction f r start count =
     run 3 (shared u8 0 tt f ∷ number w64 r ∷ place u64 1 tt start ∷ place u64 2 tt count ∷ [])
     (value lookup-kinds.r) lookup-reads.Asked lookup-reads.Learnt lookup-symbol.routine
 
 -- medlarbrace_search(file, round, out, written)
-abbrev pub search : List ℕ → ℕ → List ℕ → ℕ → Run
-search f r out k =
+abbrev pub searchFunction : List ℕ → ℕ → List ℕ → ℕ → Run
+searchFunction f r out k =
     run 3 (shared u8 0 tt f ∷ number w64 r ∷ mutable u8 1 tt out ∷ place u64 2 tt k ∷ [])
     (value search-kinds.r) search-reads.Asked search-reads.Learnt search-symbol.routine
 
 -- medlarbrace_series(left, right, out, written)
-abbrev pub series : List ℕ → List ℕ → List ℕ → ℕ → Run
-series y z out k =
+abbrev pub seriesFunction : List ℕ → List ℕ → List ℕ → ℕ → Run
+seriesFunction y z out k =
     run 4 (shared u8 0 tt y ∷ shared u8 1 tt z ∷ mutable u8 2 tt out ∷ place u64 3 tt k ∷ [])
     (value series-kinds.r) series-reads.Asked series-reads.Learnt series-symbol.routine
 
 -- medlarbrace_parallel(left, right, out, written)
-abbrev pub parallel : List ℕ → List ℕ → List ℕ → ℕ → Run
-parallel y z out k =
+abbrev pub parallelFunction : List ℕ → List ℕ → List ℕ → ℕ → Run
+parallelFunction y z out k =
     run 4 (shared u8 0 tt y ∷ shared u8 1 tt z ∷ mutable u8 2 tt out ∷ place u64 3 tt k ∷ [])
     (value parallel-kinds.r) parallel-reads.Asked parallel-reads.Learnt parallel-symbol.routine
 
 -- medlarbrace_tally_new(n1, n2, tally)
-abbrev pub new : ℕ → ℕ → List ℕ → Run
-new n1 n2 t = run 1 (number w32 n1 ∷ number w32 n2 ∷ mutable u32 0 tt t ∷ []) (value new-kinds.r) new-reads.Asked new-reads.Learnt new-symbol.routine
+abbrev pub newFunction : ℕ → ℕ → List ℕ → Run
+newFunction n1 n2 t = run 1 (number w32 n1 ∷ number w32 n2 ∷ mutable u32 0 tt t ∷ []) (value new-kinds.r) new-reads.Asked new-reads.Learnt new-symbol.routine
 
 -- medlarbrace_tally_add(record, tally)
-abbrev pub add : List ℕ → List ℕ → Run
-add x t = run 2 (shared u8 0 tt x ∷ mutable u32 1 tt t ∷ []) (value add-kinds.r) add-reads.Asked add-reads.Learnt add-symbol.routine
+abbrev pub addFunction : List ℕ → List ℕ → Run
+addFunction x t = run 2 (shared u8 0 tt x ∷ mutable u32 1 tt t ∷ []) (value add-kinds.r) add-reads.Asked add-reads.Learnt add-symbol.routine
 
 -- medlarbrace_ageing(age, chance)
-abbrev pub ageing : ℕ → ℕ → Run
-ageing y chance = run 1 (number w64 y ∷ place u32 0 tt chance ∷ []) (value ageing-kinds.r) ageing-reads.Asked ageing-reads.Learnt ageing-symbol.routine
+abbrev pub ageingFunction : ℕ → ℕ → Run
+ageingFunction y chance = run 1 (number w64 y ∷ place u32 0 tt chance ∷ []) (value ageing-kinds.r) ageing-reads.Asked ageing-reads.Learnt ageing-symbol.routine
 
 -- medlarbrace_weights(n, chance, weights)
-abbrev pub weights : ℕ → ℕ → List ℕ → Run
-weights n p out =
+abbrev pub weightsFunction : ℕ → ℕ → List ℕ → Run
+weightsFunction n p out =
     run 1 (number w32 n ∷ number w32 p ∷ mutable u32 0 tt out ∷ [])
     (value weights-kinds.r) weights-reads.Asked weights-reads.Learnt weights-symbol.routine
 
 -- medlarbrace_reliability(tally, chance1, chance2, sum, rounds, reliability)
-abbrev pub reliability : List ℕ → ℕ → ℕ → ℕ → ℕ → ℕ → Run
-reliability t p1 p2 s m r =
+abbrev pub reliabilityFunction : List ℕ → ℕ → ℕ → ℕ → ℕ → ℕ → Run
+reliabilityFunction t p1 p2 s m r =
     run 4 (shared u32 0 tt t ∷ number w32 p1 ∷ number w32 p2 ∷ place u64 1 tt s ∷ place u64 2 tt m ∷ place u64 3 tt r ∷ [])
     (value reliability-kinds.r) reliability-reads.Asked reliability-reads.Learnt reliability-symbol.routine
 
 -- medlarbrace_write(nodes, arcs, rounds, source, target, total, out, written)
-abbrev pub writer : Given → List ℕ → ℕ → Run
-writer g out k =
+abbrev pub writeFunction : Given → List ℕ → ℕ → Run
+writeFunction g out k =
     run 5
     (shared u8 0 tt (g .nodes) ∷ shared u8 1 tt (g .arcs) ∷ shared u8 2 tt (g .rounds)
     ∷ number w64 (g .source) ∷ number w64 (g .target) ∷ number w64 (g .total) ∷ mutable u8 3 tt out ∷ place u64 4 tt k ∷ [])
@@ -122,56 +122,57 @@ KeepsUnless0 c = (others : List Block) (e : Ends others c) → (e .value ≡ vin
 
 pub record EveryFunction : Type 0 where
   -- each ends, and asks nothing of its caller
-  pub opening-ends : (f header : List ℕ) → AlwaysEnds (opening f header)
-  pub lookup-ends : (f : List ℕ) (r start count : ℕ) → AlwaysEnds (lookup f r start count)
-  pub search-ends : (f : List ℕ) (r : ℕ) (out : List ℕ) (k : ℕ) → AlwaysEnds (search f r out k)
-  pub series-ends : (y z out : List ℕ) (k : ℕ) → AlwaysEnds (series y z out k)
-  pub parallel-ends : (y z out : List ℕ) (k : ℕ) → AlwaysEnds (parallel y z out k)
-  pub new-ends : (n1 n2 : ℕ) (t : List ℕ) → AlwaysEnds (new n1 n2 t)
-  pub add-ends : (x t : List ℕ) → AlwaysEnds (add x t)
-  pub ageing-ends : (y chance : ℕ) → AlwaysEnds (ageing y chance)
-  pub weights-ends : (n p : ℕ) (out : List ℕ) → AlwaysEnds (weights n p out)
-  pub reliability-ends : (t : List ℕ) (p1 p2 s m r : ℕ) → AlwaysEnds (reliability t p1 p2 s m r)
-  pub writer-ends : (g : Given) (out : List ℕ) (k : ℕ) → AlwaysEnds (writer g out k)
+  pub opening-ends : (f header : List ℕ) → AlwaysEnds (openFunction f header)
+  pub lookup-ends : (f : List ℕ) (r start count : ℕ) → AlwaysEnds (roundFunction f r start count)
+  pub search-ends : (f : List ℕ) (r : ℕ) (out : List ℕ) (k : ℕ) → AlwaysEnds (searchFunction f r out k)
+  pub series-ends : (y z out : List ℕ) (k : ℕ) → AlwaysEnds (seriesFunction y z out k)
+  pub parallel-ends : (y z out : List ℕ) (k : ℕ) → AlwaysEnds (parallelFunction y z out k)
+  pub new-ends : (n1 n2 : ℕ) (t : List ℕ) → AlwaysEnds (newFunction n1 n2 t)
+  pub add-ends : (x t : List ℕ) → AlwaysEnds (addFunction x t)
+  pub ageing-ends : (y chance : ℕ) → AlwaysEnds (ageingFunction y chance)
+  pub weights-ends : (n p : ℕ) (out : List ℕ) → AlwaysEnds (weightsFunction n p out)
+  pub reliability-ends : (t : List ℕ) (p1 p2 s m r : ℕ) → AlwaysEnds (reliabilityFunction t p1 p2 s m r)
+  pub writer-ends : (g : Given) (out : List ℕ) (k : ℕ) → AlwaysEnds (writeFunction g out k)
   -- what each answers and leaves: for every call of document 01, the function with that call's arguments answers and leaves what the call did; a value of
   -- the answer goes where its pointer leads (`result`: the value's place in the answer; what was there, on a refusal)
   pub search-says : (c : call.SearchCall) (k : ℕ) → let a = call.searchResult c in
-      Says (search (call.searchFile c) (call.searchRound c) (call.searchLent c) k) a
+      Says (searchFunction (call.searchFile c) (call.searchRound c) (call.searchLent c) k) a
       (block u8 (call.searchFile c) ∷ block u8 (call.searchLeft c) ∷ block u64 (result 0 a k ∷ []) ∷ [])
   pub series-says : (c : call.SeriesCall) (k : ℕ) → let a = call.seriesResult c in
-      Says (series (call.seriesFirst c) (call.seriesSecond c) (call.seriesLent c) k) a
+      Says (seriesFunction (call.seriesFirst c) (call.seriesSecond c) (call.seriesLent c) k) a
       (block u8 (call.seriesFirst c) ∷ block u8 (call.seriesSecond c) ∷ block u8 (call.seriesLeft c) ∷ block u64 (result 0 a k ∷ []) ∷ [])
   pub parallel-says : (c : call.ParallelCall) (k : ℕ) → let a = call.parallelResult c in
-      Says (parallel (call.parallelFirst c) (call.parallelSecond c) (call.parallelLent c) k) a
+      Says (parallelFunction (call.parallelFirst c) (call.parallelSecond c) (call.parallelLent c) k) a
       (block u8 (call.parallelFirst c) ∷ block u8 (call.parallelSecond c) ∷ block u8 (call.parallelLeft c) ∷ block u64 (result 0 a k ∷ []) ∷ [])
-  pub new-says : (c : call.NewCall) → Says (new (call.newSize1 c) (call.newSize2 c) (call.newLent c)) (call.newResult c) (block u32 (call.newLeft c) ∷ [])
+  pub new-says : (c : call.NewCall) →
+      Says (newFunction (call.newSize1 c) (call.newSize2 c) (call.newLent c)) (call.newResult c) (block u32 (call.newLeft c) ∷ [])
   pub add-says : (c : call.AddCall) →
-      Says (add (call.addRecord c) (call.addLent c)) (call.addResult c) (block u8 (call.addRecord c) ∷ block u32 (call.addLeft c) ∷ [])
+      Says (addFunction (call.addRecord c) (call.addLent c)) (call.addResult c) (block u8 (call.addRecord c) ∷ block u32 (call.addLeft c) ∷ [])
   pub ageing-says : (c : call.AgeingCall) (chance : ℕ) → let a = call.ageingResult c in
-      Says (ageing (call.ageingAge c) chance) a (block u32 (result 0 a chance ∷ []) ∷ [])
+      Says (ageingFunction (call.ageingAge c) chance) a (block u32 (result 0 a chance ∷ []) ∷ [])
   pub weights-says : (c : call.WeightsCall) →
-      Says (weights (call.weightsNodes c) (call.weightsChance c) (call.weightsLent c)) (call.weightsResult c) (block u32 (call.weightsLeft c) ∷ [])
+      Says (weightsFunction (call.weightsNodes c) (call.weightsChance c) (call.weightsLent c)) (call.weightsResult c) (block u32 (call.weightsLeft c) ∷ [])
   pub reliability-says : (c : call.RateCall) (s m r : ℕ) → let a = call.rateResult c in
-      Says (reliability (call.rateTally c) (call.rateChance1 c) (call.rateChance2 c) s m r) a
+      Says (reliabilityFunction (call.rateTally c) (call.rateChance1 c) (call.rateChance2 c) s m r) a
       (block u32 (call.rateTally c) ∷ block u64 (result 0 a s ∷ []) ∷ block u64 (result 1 a m ∷ []) ∷ block u64 (result 2 a r ∷ []) ∷ [])
   pub writer-says : (c : call.WriteCall) (k : ℕ) → let a = call.writeResult c in let g = call.writeGiven c in
-      Says (writer g (call.writeLent c) k) a
+      Says (writeFunction g (call.writeLent c) k) a
       (block u8 (g .nodes) ∷ block u8 (g .arcs) ∷ block u8 (g .rounds) ∷ block u8 (call.writeLeft c) ∷ block u64 (result 0 a k ∷ []) ∷ [])
   -- opening into seven words (1 to 9, then 15), and lookup by place (1 to 10): the place and length of the part that lookup hands back
-  pub opening-says : (f header : List ℕ) → Says (opening f header) (headerAnswer f (length header)) (block u8 f ∷ block u32 (headerOut f header) ∷ [])
+  pub opening-says : (f header : List ℕ) → Says (openFunction f header) (headerAnswer f (length header)) (block u8 f ∷ block u32 (headerOut f header) ∷ [])
   pub lookup-says : (f : List ℕ) (r start count : ℕ) → let a = placeAnswer f r in
-      Says (lookup f r start count) a (block u8 f ∷ block u64 (result 0 a start ∷ []) ∷ block u64 (result 1 a count ∷ []) ∷ [])
+      Says (roundFunction f r start count) a (block u8 f ∷ block u64 (result 0 a start ∷ []) ∷ block u64 (result 1 a count ∷ []) ∷ [])
   pub lookup-placed : (c : call.LookupCall) (start count : ℕ) → placeAnswer (call.lookupFile c) (call.lookupRound c) ≡ success (start ∷ count ∷ [])
       → (start + count ≤ length (call.lookupFile c)) × (call.lookupResult c ≡ partAt start count (call.lookupFile c))
   -- a number other than 0 leaves every lent block as it was
-  pub opening-keeps : (f header : List ℕ) → KeepsUnless0 (opening f header)
-  pub lookup-keeps : (f : List ℕ) (r start count : ℕ) → KeepsUnless0 (lookup f r start count)
-  pub search-keeps : (f : List ℕ) (r : ℕ) (out : List ℕ) (k : ℕ) → KeepsUnless0 (search f r out k)
-  pub series-keeps : (y z out : List ℕ) (k : ℕ) → KeepsUnless0 (series y z out k)
-  pub parallel-keeps : (y z out : List ℕ) (k : ℕ) → KeepsUnless0 (parallel y z out k)
-  pub new-keeps : (n1 n2 : ℕ) (t : List ℕ) → KeepsUnless0 (new n1 n2 t)
-  pub add-keeps : (x t : List ℕ) → KeepsUnless0 (add x t)
-  pub ageing-keeps : (y chance : ℕ) → KeepsUnless0 (ageing y chance)
-  pub weights-keeps : (n p : ℕ) (out : List ℕ) → KeepsUnless0 (weights n p out)
-  pub reliability-keeps : (t : List ℕ) (p1 p2 s m r : ℕ) → KeepsUnless0 (reliability t p1 p2 s m r)
-  pub writer-keeps : (g : Given) (out : List ℕ) (k : ℕ) → KeepsUnless0 (writer g out k)
+  pub opening-keeps : (f header : List ℕ) → KeepsUnless0 (openFunction f header)
+  pub lookup-keeps : (f : List ℕ) (r start count : ℕ) → KeepsUnless0 (roundFunction f r start count)
+  pub search-keeps : (f : List ℕ) (r : ℕ) (out : List ℕ) (k : ℕ) → KeepsUnless0 (searchFunction f r out k)
+  pub series-keeps : (y z out : List ℕ) (k : ℕ) → KeepsUnless0 (seriesFunction y z out k)
+  pub parallel-keeps : (y z out : List ℕ) (k : ℕ) → KeepsUnless0 (parallelFunction y z out k)
+  pub new-keeps : (n1 n2 : ℕ) (t : List ℕ) → KeepsUnless0 (newFunction n1 n2 t)
+  pub add-keeps : (x t : List ℕ) → KeepsUnless0 (addFunction x t)
+  pub ageing-keeps : (y chance : ℕ) → KeepsUnless0 (ageingFunction y chance)
+  pub weights-keeps : (n p : ℕ) (out : List ℕ) → KeepsUnless0 (weightsFunction n p out)
+  pub reliability-keeps : (t : List ℕ) (p1 p2 s m r : ℕ) → KeepsUnless0 (reliabilityFunction t p1 p2 s m r)
+  pub writer-keeps : (g : Given) (out : List ℕ) (k : ℕ) → KeepsUnless0 (writeFunction g out k)

@@ -38,13 +38,13 @@ pub record Searched (f : List ℕ) (r : ℕ) (x : List ℕ) : Type 0 where
   pub handed : Handed (call.searchResult made) (call.searchLeft made) x
 
 -- SERIES (01: row) and PARALLEL (01: side) of the records y and z handed on x
-pub record Row (y z x : List ℕ) : Type 0 where
+pub record RowJoined (y z x : List ℕ) : Type 0 where
   pub made : call.SeriesCall
   pub first-is : call.seriesFirst made ≡ y
   pub second-is : call.seriesSecond made ≡ z
   pub handed : Handed (call.seriesResult made) (call.seriesLeft made) x
 
-pub record Side (y z x : List ℕ) : Type 0 where
+pub record SideJoined (y z x : List ℕ) : Type 0 where
   pub made : call.ParallelCall
   pub first-is : call.parallelFirst made ≡ y
   pub second-is : call.parallelSecond made ≡ z
@@ -53,8 +53,8 @@ pub record Side (y z x : List ℕ) : Type 0 where
 -- A PLAN BUILT from its parts up, each call of its own successful; x is its front record
 abbrev pub Built : Plan → List ℕ → Type 0
 Built (searched f r) x = Searched f r x
-Built (series p q) x = (y : List ℕ) × (z : List ℕ) × Built p y × Built q z × Row y z x
-Built (parallel p q) x = (y : List ℕ) × (z : List ℕ) × Built p y × Built q z × Side y z x
+Built (series p q) x = (y : List ℕ) × (z : List ℕ) × Built p y × Built q z × RowJoined y z x
+Built (parallel p q) x = (y : List ℕ) × (z : List ℕ) × Built p y × Built q z × SideJoined y z x
 
 -- two plans have the same front, however they were built
 abbrev pub SameFront : Plan → Plan → Type 0

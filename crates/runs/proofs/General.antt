@@ -27,7 +27,7 @@ use borrow.Fn.World.{World, w₀}
 use borrow.Fn.Plain.{knownOf}
 use borrow.Fn.Kinds.{RK, Dens, In, resT, osR, slots, kepts, endedOf, stays}
 use Rattle.runs.specs.Arguments.{Block, Arg, Result, value, part, Fit, lent, values, kinds, kind, Names, argsOf}
-use Rattle.runs.specs.Run.{at, start, Held, Smalls, left, Lies, Run, CallOf, Ends, AlwaysEnds}
+use Rattle.runs.specs.Run.{at, memoryBefore, Held, Smalls, left, Lies, Run, CallOf, Ends, AlwaysEnds}
 use Rattle.runs.proofs.Start.{AllOwned, started}
 use Rattle.runs.proofs.Args.{Times, times, full, vals, passed, good, Final}
 use Rattle.runs.proofs.Lend.{both, weaken, opens, shown, with-fact, alive, begun, over, Passed, Kept, lending, Said, back, all-loaded, part-held}
@@ -89,7 +89,7 @@ module _ (ω : World) where
     abbrev pub Asked : Type 0
     Asked = (b : ℕ) (κs : Lfts n) (γs : Names us) → c .asks κs (argsOf κs b us γs)
 
-  module _ (c : Run) (meets : Meets c) (fit : Fit (c .args)) (others : List Block) (small : Smalls others) (others-began : Held (start others (c .args)) 2 others) (began : Held (start others (c .args)) (at others) (lent (c .args))) (bounds : Bounded c) (asked : Asked c) where
+  module _ (c : Run) (meets : Meets c) (fit : Fit (c .args)) (others : List Block) (small : Smalls others) (others-began : Held (memoryBefore others (c .args)) 2 others) (began : Held (memoryBefore others (c .args)) (at others) (lent (c .args))) (bounds : Bounded c) (asked : Asked c) where
     module _ (αs : Times (n c)) (γs : Names (us c)) where
       abbrev κs : Lfts (n c)
       κs = times (n c) αs
@@ -110,7 +110,7 @@ module _ (ω : World) where
       Facts x ws = LastsFit (endedOf (n c) (kinds (us c)) (r c)) (stays (kinds (us c))) κs a ws × c .promise κs a x (atExit (endedOf (n c) (kinds (us c)) (r c)) κs a ws)
 
       abbrev Runs : ℕ → Val → Memory → Type 0
-      Runs k v σ = c .routine .step k (flat (typesAt (slots (kinds (us c))) κs) (vals κs (at others) (us c))) (start others (us c)) ≡ ended (v, σ)
+      Runs k v σ = c .routine .step k (flat (typesAt (slots (kinds (us c))) κs) (vals κs (at others) (us c))) (memoryBefore others (us c)) ≡ ended (v, σ)
 
       -- what it leaves, by what is bound at the return
       abbrev leftBy : Final κs (at others) (us c) γs → List Block
@@ -120,8 +120,8 @@ module _ (ω : World) where
       made : (x : Res) (ws : Final κs (at others) (us c) γs) → Facts x ws → CallOf c
       made x ws p = record { lifetimes = κs; args = a; result = x; last = ws; kept = p .1 }
 
-      returned : (k : ℕ) (v : Val) (σ : Memory) → Runs k v σ → c .routine .step k (values (at others) (us c)) (start others (us c)) ≡ ended (v, σ)
-      returned k v σ e = subst (λ vs. c .routine .step k vs (start others (us c)) ≡ ended (v, σ)) (passed κs (at others) (us c)) e
+      returned : (k : ℕ) (v : Val) (σ : Memory) → Runs k v σ → c .routine .step k (values (at others) (us c)) (memoryBefore others (us c)) ≡ ended (v, σ)
+      returned k v σ e = subst (λ vs. c .routine .step k vs (memoryBefore others (us c)) ≡ ended (v, σ)) (passed κs (at others) (us c)) e
 
       done-so : (k : ℕ) (v : Val) (σ : Memory) → Runs k v σ → (x : Res) (ws : Final κs (at others) (us c) γs) → Facts x ws → Is x v → Lies κs (c .result) x σ
           → Held σ (at others) (leftBy ws) × Smalls (leftBy ws) → Held σ 2 others → Ends others c
@@ -134,7 +134,7 @@ module _ (ω : World) where
         memory = σ;
         returns = returned k v σ e;
         only = λ k′ v′ σ′ h.
-            let one = ends-one (c .routine) (values (at others) (us c)) (start others (us c)) (v′, σ′) (v, σ) (k′, h) (k, returned k v σ e) in
+            let one = ends-one (c .routine) (values (at others) (us c)) (memoryBefore others (us c)) (v′, σ′) (v, σ) (k′, h) (k, returned k v σ e) in
             (ap (λ y. y .0) one, ap (λ y. y .1) one);
         made = made x ws p;
         names = γs;
@@ -184,11 +184,11 @@ module _ (ω : World) where
           done-so k v σ e (x .0) (z .0) p q y m o)))))))
 
       -- from the entry on
-      entered : start others (us c) ⊨ (Passed ω κs (at others) (us c) γs ∗ Aside) ∗ alive ω (n c) αs → ∥ Ends others c ∥₁
+      entered : memoryBefore others (us c) ⊨ (Passed ω κs (at others) (us c) γs ∗ Aside) ∗ alive ω (n c) αs → ∥ Ends others c ∥₁
       entered s =
           let Tokens = alive ω (n c) αs in
           let In = Passed ω κs (at others) (us c) γs in
-          ∥∥₁-elim (adequate (ω .𝓤) (ω .H) (ω .𝓜) (tabled c) anyName (Known c) meets bound (start others (us c)) Aside (weaken ω (start others (us c))
+          ∥∥₁-elim (adequate (ω .𝓤) (ω .H) (ω .𝓜) (tabled c) anyName (Known c) meets bound (memoryBefore others (us c)) Aside (weaken ω (memoryBefore others (us c))
           (via (ω .𝓤) (Tokens ∗ In ∗ Aside) (comm∗ (ω .𝓤) (In ∗ Aside) Tokens)
           (via (ω .𝓤) ((Tokens ∗ In) ∗ Aside) (assoc′ (ω .𝓤) Tokens In Aside) (monoL (ω .𝓤) Aside (with-fact ω (c .asks κs a) (Tokens ∗ In) (asked (at others) κs γs))))) s)) ∥∥₁-prop (λ t.
           finish (t .0) (t .1) (t .2) (t .3) (t .4))
@@ -197,7 +197,7 @@ module _ (ω : World) where
     ends =
         let Lot = AllOwned ω (at others) (lent (us c)) in
         let Rest = AllOwned ω 2 others in
-        let σ = start others (us c) in
+        let σ = memoryBefore others (us c) in
         ∥∥₁-elim (begun ω (n c) σ (Lot ∗ Rest ∗ none) (started ω others (us c) small fit)) ∥∥₁-prop (λ b.
         let Tokens = alive ω (n c) (b .0) in
         ∥∥₁-elim (lending ω (times (n c) (b .0)) σ (us c) (at others) (Rest ∗ Tokens) fit (weaken ω σ
@@ -218,7 +218,7 @@ always c meets bounds asked = record { free = asked; ends = ran }
         let Lot = AllOwned w₀ (at others) (lent (c .args)) in
         let Rest = AllOwned w₀ 2 others in
         let none = emp (w₀ .𝓤) in
-        let σ = start others (c .args) in
+        let σ = memoryBefore others (c .args) in
         let s = started w₀ others (c .args) small fit in
         ∥∥₁-elim (all-loaded w₀ σ (lent (c .args)) (at others) (weaken w₀ σ (fst∗ (w₀ .𝓤) Lot (sep (w₀ .𝓤) Rest none)) s)) ∥∥₁-prop (λ began.
         ∥∥₁-elim (all-loaded w₀ σ others 2 (weaken w₀ σ (via (w₀ .𝓤) (sep (w₀ .𝓤) Rest none) (snd∗ (w₀ .𝓤) Lot (sep (w₀ .𝓤) Rest none)) (fst∗ (w₀ .𝓤) Rest none)) s)) ∥∥₁-prop (λ others-began.

@@ -29,14 +29,14 @@ blocks [] = []
 blocks (block e xs ∷ bs) = some (align (ty e), cells e xs) ∷ blocks bs
 
 -- a memory with any other blocks in it, and behind them what is lent, from block `at` on. (The kit's memory begins with two blocks of its own, empty here.)
-abbrev pub front : List Block → Memory
-front others = some (1, []) ∷ some (1, []) ∷ blocks others
+abbrev pub otherBlocks : List Block → Memory
+otherBlocks others = some (1, []) ∷ some (1, []) ∷ blocks others
 
 abbrev pub at : List Block → ℕ
-at others = length (front others)
+at others = length (otherBlocks others)
 
-abbrev pub start : {n : ℕ} → List Block → List (Arg n) → Memory
-start others us = front others ++ blocks (lent us)
+abbrev pub memoryBefore : {n : ℕ} → List Block → List (Arg n) → Memory
+memoryBefore others us = otherBlocks others ++ blocks (lent us)
 
 -- ---- AFTER: what is loaded from block b, one element after another from byte o on, is xs
 abbrev pub Holds : Memory → (e : Elem) → ℕ → ℕ → List (Of e) → Type 0
@@ -94,15 +94,15 @@ pub record Possible {n : ℕ} {ps : List (PK n)} {r : RK n} {promise : Out n ps 
 -- IT ENDS, in a memory with these other blocks
 pub record Ends (others : List Block) (c : Run) : Type 0 where
   -- from the start, which holds them and what is lent, the code returns with some fuel a value and a memory
-  pub others-began : Held (start others (c .args)) 2 others
-  pub began : Held (start others (c .args)) (at others) (lent (c .args))
+  pub others-began : Held (memoryBefore others (c .args)) 2 others
+  pub began : Held (memoryBefore others (c .args)) (at others) (lent (c .args))
   pub fuel : ℕ
   pub value : Val
   pub memory : Memory
-  pub returns : c .routine .step fuel (values (at others) (c .args)) (start others (c .args)) ≡ ended (value, memory)
+  pub returns : c .routine .step fuel (values (at others) (c .args)) (memoryBefore others (c .args)) ≡ ended (value, memory)
   -- (whatever the fuel, it ends in no other way)
   pub only : (k : ℕ) (v : Val) (σ : Memory)
-      → c .routine .step k (values (at others) (c .args)) (start others (c .args)) ≡ ended (v, σ) → (v ≡ value) × (σ ≡ memory)
+      → c .routine .step k (values (at others) (c .args)) (memoryBefore others (c .args)) ≡ ended (v, σ) → (v ≡ value) × (σ ≡ memory)
   -- and so makes a call with these arguments
   pub made : CallOf c
   pub names : Names (c .args)
