@@ -1,14 +1,10 @@
 -- The sample ring, by evaluation and by the demands.
 use mathlib.Core.Path.{_≡_, refl, subst, ap, ap₂, _∙_}
 use mathlib.Core.Logic.{∥∥₁-map}
-use mathlib.Core.Bool.{Bool, true, _&&_}
 use mathlib.Core.List.{List, [], _∷_}
 use Prim.Native.Nat.{ℕ}
 use native.Mathlib.Omega.{arith}
-use lib.Dec.{T, ltb}
-use borrow.Author.Tests.{ltb-true}
 use lib.ListN.{length}
-use Rattle.laws.specs.Tests.{T-true, T-and}
 use Rattle.laws.specs.Members.{_∈_, here, there, any-in}
 use Rattle.answer.specs.Outcome.{success, refused}
 use Rattle.front.specs.Pair.{pairOf, same}
@@ -17,15 +13,16 @@ use Rattle.record.specs.Record.{listed}
 use Rattle.compose.specs.Compose.{seriesBytes, parallelBytes}
 use Rattle.search.specs.Search.{searchBytes, searchAnswer, searchOut}
 use Rattle.tally.specs.Calls.{newOut}
-use Rattle.samples.specs.Table.{ringWith, ringFile, ring, ten, ringTally, table}
-use Rattle.runs.specs.Arguments.{Small, u8, All}
+use Rattle.samples.specs.Table.{ringWith, ringFile, ring, ten, eight, ringTally, table}
+use Rattle.runs.specs.Arguments.{u8}
 use Rattle.runs.specs.Run.{Holds, Ends}
 use Rattle.runs.proofs.General.{told}
+use Rattle.runs.proofs.Bytes.{allBytes, bytes-by}
 use Rattle.kinds.specs.Kinds as call
 use Rattle.plan.specs.Calls.{Vain, search, Searched, RowJoined, SideJoined, Built}
 use Rattle.survival.specs.Calls.{Tallied, AllSearched, Rating}
 use Rattle.demands.specs.Terms.{Wrote}
-use Rattle.demands.specs.Ring.{ringPlan, ringRounds, eight, RingClaims}
+use Rattle.demands.specs.Ring.{ringPlan, ringRounds, RingClaims}
 use Rattle.demands.proofs.Made.{search-made}
 use Rattle.demands.proofs.One.{demand1}
 use Rattle.demands.proofs.Plenty.{searched-by, row-by, side-by, wrote-by, begun-by, added-by, rating-by}
@@ -62,15 +59,6 @@ built = (ring, ring, found, (ring, ring, found, found, ring-side), ring-row)
     ring-side = subst (SideJoined ring ring) side-bytes (side-by ring ring ten 9 refl)
 
 -- ---- the runs
-allBytes : List ℕ → Bool
-allBytes [] = true
-allBytes (x ∷ l) = ltb x 256 && allBytes l
-
-bytes-by : (l : List ℕ) → T (allBytes l) → All (Small u8) l
-unfolding allBytes
-bytes-by [] t = tt
-bytes-by (x ∷ l) t = let k = T-and (ltb x 256) (allBytes l) .0 t in (ltb-true x 256 (T-true (ltb x 256) .0 (k .0)), bytes-by l (k .1))
-
 -- a run answers, and leaves in its slice, what the definitions say of its arguments
 run-answer : (f : List ℕ) (r : ℕ) (s : List ℕ) (e : Ends [] (call.searchRun f r s)) → call.searchResult (e .made) ≡ searchAnswer f r (length s)
 run-answer f r s e = told (call.searchRun f r s) e .kept .0

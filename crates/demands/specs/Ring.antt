@@ -9,7 +9,7 @@ use Rattle.soundness.specs.Tally.{cell}
 use Rattle.survival.specs.Counts.{Count, HoldsWith}
 use Rattle.plan.specs.Plan.{Plan, searched, series, parallel, PlanHolds, PlanSized}
 use Rattle.answer.specs.Outcome.{success, refused}
-use Rattle.samples.specs.Table.{ringWith, ringFile, ring, ten, ringTally}
+use Rattle.samples.specs.Table.{ringWith, ringFile, ring, ten, eight, ringTally}
 use Rattle.runs.specs.Arguments.{u8}
 use Rattle.runs.specs.Run.{Holds, Ends}
 use Rattle.kinds.specs.Kinds as call
@@ -23,10 +23,6 @@ ringPlan = series (searched ringFile 0) (parallel (searched ringFile 0) (searche
 
 abbrev pub ringRounds : List (List ℕ × ℕ)
 ringRounds = (ringFile, 0) ∷ []
-
--- eight bytes of room, too few for the ring's record
-abbrev pub eight : List ℕ
-eight = 9 ∷ 9 ∷ 9 ∷ 9 ∷ 9 ∷ 9 ∷ 9 ∷ 9 ∷ []
 
 pub record RingClaims : Type 0 where
   -- R1: the writer hands on the ring's file; R2: the search of its round hands on the record 2 2 3 3 1 2 2 1 3

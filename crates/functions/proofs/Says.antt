@@ -106,10 +106,10 @@ unfolding tablesOf
 search-ends f r out k =
     always (searchFunction f r out k) (search-reads.known w₀ (λ i. search-symbol.routine) anyName search-symbol.routine refl (search-met.met (w₀ .𝓤) (w₀ .H) (w₀ .𝓜) (w₀ .𝓖) (w₀ .𝓡))) (λ κs. tt) (λ b κs γs. tt)
 
-abbrev search-left : List ℕ → ℕ → List ℕ → Outcome → List Block
+abbrev pub search-left : List ℕ → ℕ → List ℕ → Outcome → List Block
 search-left f k s a = block u8 f ∷ block u8 s ∷ block u64 (result 0 a k ∷ []) ∷ []
 
-search-said : (f : List ℕ) (r : ℕ) (out : List ℕ) (k : ℕ) → let a = searchAnswer f r (length out) in Says (searchFunction f r out k) a (search-left f k (filled a (searchBytes f r) out) a)
+pub search-said : (f : List ℕ) (r : ℕ) (out : List ℕ) (k : ℕ) → let a = searchAnswer f r (length out) in Says (searchFunction f r out k) a (search-left f k (filled a (searchBytes f r) out) a)
 search-said f r out k others e =
     let d = told (searchFunction f r out k) e in
     (returned (e .value-is .0) (d .kept .0), rw (← d .kept .1 .0, ← d .kept .1 .1) (d .memory-is))

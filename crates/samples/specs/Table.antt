@@ -64,9 +64,12 @@ empty = 2 ∷ 2 ∷ 0 ∷ []
 abbrev pub ringTally : List ℕ
 ringTally = addOut ring (newOut 2 2 (9 ∷ 9 ∷ 9 ∷ 9 ∷ 9 ∷ 9 ∷ 9 ∷ 9 ∷ 9 ∷ 9 ∷ 9 ∷ 9 ∷ 7 ∷ []))
 
--- an output slice of ten bytes
+-- output slices of ten bytes, and of eight: too few for the ring's record
 abbrev pub ten : List ℕ
 ten = 9 ∷ 9 ∷ 9 ∷ 9 ∷ 9 ∷ 9 ∷ 9 ∷ 9 ∷ 9 ∷ 9 ∷ []
+
+abbrev pub eight : List ℕ
+eight = 9 ∷ 9 ∷ 9 ∷ 9 ∷ 9 ∷ 9 ∷ 9 ∷ 9 ∷ []
 
 pub record Table : Type 0 where
   -- R1 written: 56 bytes, dN 24, dA 18, dM 4
