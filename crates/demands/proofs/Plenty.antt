@@ -25,6 +25,7 @@ use Rattle.reliability.specs.Calls.{rateAnswer}
 use Rattle.writer.specs.Writer.{Given, studyBytes, writeTests, writeAnswer, writeOut}
 use Rattle.plan.specs.Plan.{Plan, searched, series, parallel, PlanSized}
 use Rattle.plan.specs.Calls.{Through, none, Handed, Searched, RowJoined, SideJoined, Built}
+use Rattle.plan.proofs.Told.{room}
 use Rattle.plan.proofs.Plans.{sound, one-size}
 use Rattle.survival.specs.Calls.{Begun, Added, Tallied, AllSearched, Rating}
 use Rattle.survival.proofs.Tallies.{run, as-many}
@@ -45,9 +46,6 @@ at-once ts bytes s left n a e l o =
       through = none;
       part-is = sym (ap (take n) l ∙ ap (λ (x : Outcome). take n (filled x bytes s)) o ∙ take-at bytes (drop (length bytes) s) n h);
     }
-
-abbrev room : List ℕ → List ℕ → List (ℕ × Bool)
-room bytes s = (15, ltb (length s) (length bytes)) ∷ []
 
 pub searched-by : (f : List ℕ) (r : ℕ) (s : List ℕ) (n : ℕ) → searchAnswer f r (length s) ≡ success (n ∷ []) → Searched f r (searchBytes f r)
 searched-by f r s n o =

@@ -1,5 +1,5 @@
 -- DEMAND 2 of tallies and reliability, by induction over the adds.
-use mathlib.Core.Path.{_≡_, refl, sym, ap, subst, _∙_}
+use mathlib.Core.Path.{_≡_, refl, sym, ap, ap₂, subst, _∙_}
 use mathlib.Core.Logic.{_↔_, _⊎_, inl, inr, ⊎-elim}
 use mathlib.Core.Bool.{Bool, true, false, cond, not}
 use mathlib.Core.List.{List, [], _∷_, _++_, List·Memᴰ·head, List·Memᴰ·tail}
@@ -24,6 +24,7 @@ use Rattle.soundness.specs.Tally.{size1, size2, rounds, cell, Sound}
 use Rattle.tally.specs.Calls.{newAnswer, newOut, sameSizes, addTests, addAnswer, addOut}
 use Rattle.tally.specs.Adds.{succeeds, holding, Tallies}
 use Rattle.tally.proofs.Runs.{new-tallies, add-tallies, holding-snoc}
+use Rattle.reliability.specs.Calls.{rateAnswer}
 use Rattle.reliability.proofs.Answers as answers
 use Rattle.kinds.specs.Kinds as call
 use Rattle.survival.specs.Calls.{Begun, Added, Tallied, AllSearched, Rating}
@@ -54,10 +55,10 @@ fresh-left b = rw (← b .size1-is, ← b .size2-is) (sym (b .made .kept .1) ∙
 
 module _ {x u t : List ℕ} (a : Added x u t) where
   pub add-answer : addAnswer x u ≡ success (0 ∷ [])
-  add-answer = rw (← a .record-is, ← a .tally-is) (sym (a .made .kept .0) ∙ a .success-is)
+  add-answer = ap₂ addAnswer (sym (a .record-is)) (sym (a .tally-is)) ∙ sym (a .made .kept .0) ∙ a .success-is
 
   pub add-left : addOut x u ≡ t
-  add-left = rw (← a .record-is, ← a .tally-is) (sym (a .made .kept .1) ∙ through-same (a .through))
+  add-left = ap₂ addOut (sym (a .record-is)) (sym (a .tally-is)) ∙ sym (a .made .kept .1) ∙ through-same (a .through)
 
   pub add-sizes : (recordSize1 x ≡ size1 u) × (recordSize2 x ≡ size2 u)
   add-sizes =
@@ -164,7 +165,10 @@ counts n1 n2 qs xs t w a l1 l2 h k = joined n1 n2 qs xs t w a l1 l2 (cell t l1 l
 
 -- ---- reliability of any tally
 pub rated : (t : List ℕ) (p1 p2 s m r : ℕ) → Rating t p1 p2 s m r → (m ≡ rounds t) × Near (size1 t) (size2 t) p1 p2 (cell t) s m r
-rated t p1 p2 s m r a = answers.near t p1 p2 s m r (rw (← a .tally-is, ← a .chance1-is, ← a .chance2-is) (sym (a .made .kept) ∙ a .success-is))
+rated t p1 p2 s m r a =
+    let c = a .made in
+    answers.near t p1 p2 s m r
+    (ap (λ u. rateAnswer u p1 p2) (sym (a .tally-is)) ∙ ap₂ (rateAnswer (call.rateTally c)) (sym (a .chance1-is)) (sym (a .chance2-is)) ∙ sym (c .kept) ∙ a .success-is)
 
 -- on the counts that removal finds
 pub near-rounds : (n1 n2 : ℕ) (qs : List (List ℕ × ℕ)) (xs : List (List ℕ)) (t : List ℕ) → Tallied n1 n2 xs t → AllSearched qs xs
