@@ -1,7 +1,7 @@
 -- Tests in two stages: what the first ones settle, the later ones do not change.
-use mathlib.Core.Path.{_≡_, refl, sym, ap, subst}
+use mathlib.Core.Path.{_≡_, refl, sym, ap, _∙_, subst}
 use mathlib.Core.Bool.{Bool, true, false, cond}
-use mathlib.Core.List.{List, [], _∷_, _++_}
+use mathlib.Core.List.{List, [], _∷_, _++_, append-nil, Memᴰ·append-left}
 use Prim.Native.Nat.{ℕ}
 use Rattle.laws.specs.First.{first-none}
 use Rattle.laws.specs.Members.{_∈_}
@@ -14,13 +14,6 @@ refused-apart n v e = subst tell e tt
     tell : Outcome → Type 0
     tell (success v) = ⊥
     tell (refused n) = Unit
-
--- a success says that every test is false, and the other way about
-pub outcome-tests : (ts : List (ℕ × Bool)) (v : List ℕ) → outcome ts v ≡ success v → (t : ℕ × Bool) → t ∈ ts → t .1 ≡ false
-outcome-tests ts v e = first-none refused (success v) (λ n. refused-apart n v) ts .0 e
-
-pub outcome-success : (ts : List (ℕ × Bool)) (v : List ℕ) → ((t : ℕ × Bool) → t ∈ ts → t .1 ≡ false) → outcome ts v ≡ success v
-outcome-success ts v h = first-none refused (success v) (λ n. refused-apart n v) ts .1 h
 
 -- the values of a success are those of the call
 pub outcome-values : (ts : List (ℕ × Bool)) (v w : List ℕ) → outcome ts v ≡ success w → v ≡ w
@@ -38,6 +31,13 @@ outcome-values (t ∷ ts) v w e = go (t .1) e (outcome-values ts v w)
     go true f r = absurd (refused-apart (t .0) w f)
     go false f r = r f
 
+-- a success says that every test is false, and the other way about
+pub outcome-tests : (ts : List (ℕ × Bool)) (v : List ℕ) {w : List ℕ} → outcome ts v ≡ success w → (t : ℕ × Bool) → t ∈ ts → t .1 ≡ false
+outcome-tests ts v {w} e = first-none refused (success v) (λ n. refused-apart n v) ts .0 (e ∙ ap success (sym (outcome-values ts v w e)))
+
+pub outcome-success : (ts : List (ℕ × Bool)) (v : List ℕ) → ((t : ℕ × Bool) → t ∈ ts → t .1 ≡ false) → outcome ts v ≡ success v
+outcome-success ts v h = first-none refused (success v) (λ n. refused-apart n v) ts .1 h
+
 -- a refusal by the first tests is the answer
 pub outcome-refused : (ts us : List (ℕ × Bool)) (v w : List ℕ) (n : ℕ) → outcome ts v ≡ refused n → outcome (ts ++ us) w ≡ refused n
 outcome-refused [] us v w n e = absurd (refused-apart n v (sym e))
@@ -48,10 +48,21 @@ outcome-refused (t ∷ ts) us v w n e = go (t .1) e (outcome-refused ts us v w n
     go false f r = r f
 
 -- once the first tests are false, the others decide
-pub outcome-passed : (ts us : List (ℕ × Bool)) (v w : List ℕ) → outcome ts v ≡ success v → outcome (ts ++ us) w ≡ outcome us w
+pub outcome-passed : (ts us : List (ℕ × Bool)) (v w : List ℕ) {u : List ℕ} → outcome ts v ≡ success u → outcome (ts ++ us) w ≡ outcome us w
 outcome-passed [] us v w e = refl
-outcome-passed (t ∷ ts) us v w e = go (t .1) e (outcome-passed ts us v w)
+outcome-passed (t ∷ ts) us v w {u} e = go (t .1) e (λ f. outcome-passed ts us v w f)
   where
-    go : (b : Bool) → cond b (refused (t .0)) (outcome ts v) ≡ success v → (outcome ts v ≡ success v → outcome (ts ++ us) w ≡ outcome us w) → cond b (refused (t .0)) (outcome (ts ++ us) w) ≡ outcome us w
-    go true f r = absurd (refused-apart (t .0) v f)
+    go : (b : Bool) → cond b (refused (t .0)) (outcome ts v) ≡ success u → (outcome ts v ≡ success u → outcome (ts ++ us) w ≡ outcome us w) → cond b (refused (t .0)) (outcome (ts ++ us) w) ≡ outcome us w
+    go true f r = absurd (refused-apart (t .0) u f)
     go false f r = r f
+
+-- a success says that the first tests passed
+pub outcome-first : (ts us : List (ℕ × Bool)) (v w : List ℕ) {u : List ℕ} → outcome (ts ++ us) v ≡ success u → outcome ts w ≡ success w
+outcome-first ts us v w e = outcome-success ts w (λ t m. outcome-tests (ts ++ us) v e t (Memᴰ·append-left us m))
+
+-- the same tests, of a call with other values
+pub refused-as : (ts : List (ℕ × Bool)) (v w : List ℕ) (n : ℕ) → outcome ts v ≡ refused n → outcome ts w ≡ refused n
+refused-as ts v w n e = subst (λ (l : List (ℕ × Bool)). outcome l w ≡ refused n) (append-nil ts) (outcome-refused ts [] v w n e)
+
+pub success-as : (ts : List (ℕ × Bool)) (v w : List ℕ) {u : List ℕ} → outcome ts v ≡ success u → outcome ts w ≡ success w
+success-as ts v w e = outcome-success ts w (outcome-tests ts v e)

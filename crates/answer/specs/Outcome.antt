@@ -11,7 +11,6 @@ use Rattle.answer.specs.declared.Done.{Done}
 use Rattle.answer.specs.declared.Header.{Header}
 use Rattle.answer.specs.declared.Opened.{Opened}
 use Rattle.answer.specs.declared.Aged.{Aged}
-use Rattle.answer.specs.declared.Rate.{Rate}
 use Rattle.answer.specs.declared.Rated.{Rated}
 use Rattle.answer.specs.declared.Refusal.the-variants as refusal
 use Rattle.answer.specs.declared.Written.the-variants as written-as
@@ -34,6 +33,16 @@ outcome tests values = firstTrue refused (success values) tests
 abbrev pub filled : Outcome → List ℕ → List ℕ → List ℕ
 filled (success values) bytes old = bytes ++ drop (length bytes) old
 filled (refused n) bytes old = old
+
+-- A CALL THAT FILLS A SLICE OF BYTES: its tests, then 15, where the slice is shorter than the bytes; the length is its value
+abbrev pub fillTests : List (ℕ × Bool) → List ℕ → ℕ → List (ℕ × Bool)
+fillTests tests bytes room = tests ++ (15, ltb room (length bytes)) ∷ []
+
+abbrev pub fillAnswer : List (ℕ × Bool) → List ℕ → ℕ → Outcome
+fillAnswer tests bytes room = outcome (fillTests tests bytes room) (length bytes ∷ [])
+
+abbrev pub fillOut : List (ℕ × Bool) → List ℕ → List ℕ → List ℕ
+fillOut tests bytes out = filled (fillAnswer tests bytes (length out)) bytes out
 
 -- ---- the enums of the code
 -- document 01's number of each refusal
@@ -86,10 +95,3 @@ aged (aged-as.Refused r) = refused (numberOf r)
 abbrev pub rated : Rated → Outcome
 rated (rated-as.Found k) = success (k .sum ∷ k .rounds ∷ k .rate ∷ [])
 rated (rated-as.Refused r) = refused (numberOf r)
-
--- ---- deliver: bytes into a slice, or 15
-abbrev pub deliverAnswer : List ℕ → ℕ → Outcome
-deliverAnswer bytes room = outcome ((15, ltb room (length bytes)) ∷ []) (length bytes ∷ [])
-
-abbrev pub deliverOut : List ℕ → List ℕ → List ℕ
-deliverOut bytes out = filled (deliverAnswer bytes (length out)) bytes out

@@ -1,7 +1,8 @@
 // What the calls answer: a refusal with its number, or the values of a success.
 ghost use mathlib.Core.Path.{_≡_};
+ghost use mathlib.Core.List.{[]};
 ghost use lib.ListN.{length};
-ghost use Rattle.answer.specs.Outcome.{numberOf, written, deliverAnswer, deliverOut};
+ghost use Rattle.answer.specs.Outcome.{numberOf, written, fillAnswer, fillOut};
 
 // Why a call refuses: a case for each number of document 01's two lists.
 pub enum Refusal {
@@ -126,8 +127,8 @@ pub fn number(refusal: Refusal) -> u32
 // Copies `bytes` into `out`, or refuses where `out` is shorter: the last step of every call that
 // fills a slice of bytes.
 pub fn deliver(bytes: &[u8], out: &mut [u8]) -> Written
-    ensures answer { λ r. ⌜ written r ≡ deliverAnswer (now (bytes .entry)) (length (now (out .entry))) ⌝ }
-    ensures slice { λ _. ⌜ now (out .exit) ≡ deliverOut (now (bytes .entry)) (now (out .entry)) ⌝ }
+    ensures answer { λ r. ⌜ written r ≡ fillAnswer [] (now (bytes .entry)) (length (now (out .entry))) ⌝ }
+    ensures slice { λ _. ⌜ now (out .exit) ≡ fillOut [] (now (bytes .entry)) (now (out .entry)) ⌝ }
 {
     if out.len() < bytes.len() {
         return Written::Refused(Refusal::OutputShort);

@@ -5,7 +5,7 @@ ghost use mathlib.Core.Path.{_≡_};
 ghost use mathlib.Core.List.{[], _++_, _∷_};
 ghost use Prim.Native.Nat.{_≤_, _<_};
 ghost use lib.ListN.{length, replicate};
-ghost use Rattle.answer.specs.Outcome.{written, deliverAnswer, deliverOut};
+ghost use Rattle.answer.specs.Outcome.{written, fillAnswer, fillOut};
 ghost use Rattle.record.specs.Record.{size1, size2, listed, frontBytes};
 ghost use Rattle.buffer.specs.Buffer.{longest, recordIn, stored, Puttable};
 
@@ -64,8 +64,8 @@ pub fn put(buffer: &mut [u8; LONGEST], p: Pair)
 
 // Copies the record that a buffer begins with into `out`, or refuses where `out` is shorter.
 pub fn deliver(buffer: [u8; LONGEST], out: &mut [u8]) -> Written
-    ensures answer { λ r. ⌜ written r ≡ deliverAnswer (recordIn buffer) (length (now (out .entry))) ⌝ }
-    ensures slice { λ _. ⌜ now (out .exit) ≡ deliverOut (recordIn buffer) (now (out .entry)) ⌝ }
+    ensures answer { λ r. ⌜ written r ≡ fillAnswer [] (recordIn buffer) (length (now (out .entry))) ⌝ }
+    ensures slice { λ _. ⌜ now (out .exit) ≡ fillOut [] (recordIn buffer) (now (out .entry)) ⌝ }
 {
     let n = 3 + 2 * wide(buffer[2]);
     if n < LONGEST {

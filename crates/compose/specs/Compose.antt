@@ -1,10 +1,9 @@
 -- Series and parallel of two records (document 01, "Row and side"): what the two calls write, answer and leave.
 use mathlib.Core.Bool.{Bool, not, _&&_}
-use mathlib.Core.List.{List, [], _∷_, _++_}
+use mathlib.Core.List.{List, [], _∷_}
 use Prim.Native.Nat.{ℕ}
-use lib.Dec.{T, eqb, ltb}
-use lib.ListN.{length}
-use Rattle.answer.specs.Outcome.{Outcome, outcome, filled}
+use lib.Dec.{T, eqb}
+use Rattle.answer.specs.Outcome.{Outcome, fillAnswer, fillOut}
 use Rattle.front.specs.Front.{series, parallel}
 use Rattle.record.specs.Record.{size1, size2, listed, recordBytes, isRecord}
 
@@ -23,30 +22,19 @@ sameSizes x y = eqb (size1 x) (size1 y) && eqb (size2 x) (size2 y)
 abbrev pub recordTests : List ℕ → List ℕ → List (ℕ × Bool)
 recordTests x y = (12, not (isRecord x && isRecord y)) ∷ (13, not (sameSizes x y)) ∷ []
 
--- "row and side (12, 13, 15)": the tests of a call that would write `bytes` into a slice with that room
-abbrev pub joinTests : List ℕ → List ℕ → List ℕ → ℕ → List (ℕ × Bool)
-joinTests x y bytes room = recordTests x y ++ ((15, ltb room (length bytes)) ∷ [])
-
--- the answer of such a call, and its output slice afterwards
-abbrev pub joinAnswer : List ℕ → List ℕ → List ℕ → ℕ → Outcome
-joinAnswer x y bytes room = outcome (joinTests x y bytes room) (length bytes ∷ [])
-
-abbrev pub joinOut : List ℕ → List ℕ → List ℕ → List ℕ → List ℕ
-joinOut x y bytes out = filled (joinAnswer x y bytes (length out)) bytes out
-
--- THE CALLS: series
+-- THE CALLS, "row and side (12, 13, 15)": series
 abbrev pub seriesAnswer : List ℕ → List ℕ → ℕ → Outcome
-seriesAnswer x y room = joinAnswer x y (seriesBytes x y) room
+seriesAnswer x y room = fillAnswer (recordTests x y) (seriesBytes x y) room
 
 abbrev pub seriesOut : List ℕ → List ℕ → List ℕ → List ℕ
-seriesOut x y out = joinOut x y (seriesBytes x y) out
+seriesOut x y out = fillOut (recordTests x y) (seriesBytes x y) out
 
 -- and parallel
 abbrev pub parallelAnswer : List ℕ → List ℕ → ℕ → Outcome
-parallelAnswer x y room = joinAnswer x y (parallelBytes x y) room
+parallelAnswer x y room = fillAnswer (recordTests x y) (parallelBytes x y) room
 
 abbrev pub parallelOut : List ℕ → List ℕ → List ℕ → List ℕ
-parallelOut x y out = joinOut x y (parallelBytes x y) out
+parallelOut x y out = fillOut (recordTests x y) (parallelBytes x y) out
 
 -- two records that may be joined: neither 12 nor 13
 pub record Joinable (x y : List ℕ) : Type 0 where

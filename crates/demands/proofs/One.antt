@@ -1,21 +1,17 @@
 -- DEMAND 1: each call by its own contract.
 use mathlib.Core.Path.{_≡_, refl, sym, ap, _∙_}
-use mathlib.Core.List.{List, [], _∷_, Memᴰ·append-left, Memᴰ·append-right}
-use Prim.Native.Nat.{ℕ, _+_, _-_, _*_, _<_}
-use borrow.Author.Tests.{leb-false}
+use mathlib.Core.List.{[], _∷_}
+use Prim.Native.Nat.{ℕ, _+_, _-_, _*_}
 use lib.Dec.{ltb}
 use lib.ListN.{length}
-use Rattle.laws.specs.Members.{here}
-use Rattle.answer.specs.Outcome.{success}
-use Rattle.answer.proofs.Outcomes.{refused-apart, outcome-success}
+use Rattle.answer.proofs.Outcomes.{refused-apart}
 use Rattle.slices.specs.Bytes.{partAt}
 use Rattle.parts.specs.Study.{roundSize}
 use Rattle.sections.specs.File.{trailerAt, trailer, nodesOf, studyOf}
-use Rattle.study.specs.Calls.{badNumber, openTests, openValues, openAnswer, checkTests}
-use Rattle.study.proofs.Lookups.{round-part, lookup-refused}
+use Rattle.study.specs.Calls.{openTests, openValues, checkTests, roundTests}
+use Rattle.study.proofs.Lookups.{round-part, round-found, lookup-refused}
 use Rattle.compose.specs.Compose.{seriesBytes, parallelBytes, recordTests}
-use Rattle.search.specs.Search.{searchBytes, roundTests}
-use Rattle.soundness.specs.Tally.{rounds}
+use Rattle.search.specs.Search.{searchBytes}
 use Rattle.tally.specs.Calls.{newTests, addTests}
 use Rattle.weights.specs.Calls.{weightsTests}
 use Rattle.reliability.specs.Calls.{rateTests}
@@ -23,7 +19,7 @@ use Rattle.writer.specs.Writer.{studyBytes, givenTests}
 use Rattle.kinds.specs.Kinds as call
 use Rattle.demands.specs.Terms.{First, None, RoundRecord, RowRecord, SideRecord}
 use Rattle.demands.specs.Demands.{Demand1}
-use Rattle.demands.proofs.Numbers.{first-is, answers, none-out, fills}
+use Rattle.demands.proofs.Numbers.{first-is, none-is, answers, fills}
 use Rattle.demands.proofs.Fronts.{record-one, round-record, row-record, side-record}
 use Rattle.demands.proofs.Leaves as leave
 use Rattle.demands.proofs.Made as make
@@ -32,18 +28,13 @@ use Rattle.demands.proofs.Keeps as keep
 use Rattle.demands.proofs.Outside.{open-same, check-same, lookup-same, search-same, search-out-same}
 
 -- ---- lookup
-file-opens : (f : List ℕ) (r : ℕ) → None (checkTests f r) → openAnswer f ≡ success (openValues f)
-file-opens f r none = outcome-success (openTests f) (openValues f) (λ t m. none-out (checkTests f r) none t (Memᴰ·append-left ((10, badNumber f r) ∷ []) m))
-
-number-good : (f : List ℕ) (r : ℕ) → None (checkTests f r) → r < trailer f .rounds
-number-good f r none = leb-false (trailer f .rounds) r (none-out (checkTests f r) none (10, badNumber f r) (Memᴰ·append-right (openTests f) here))
-
 lookup : (c : call.LookupCall) → let f = call.lookupFile c in let n = roundSize (nodesOf f) in
     None (checkTests f (call.lookupRound c)) → call.lookupResult c ≡ partAt (trailerAt f - trailer f .dm + call.lookupRound c * n) n f
 lookup c none =
     let f = call.lookupFile c in
     let r = call.lookupRound c in
-    c .kept .0 ∙ sym (round-part f (openValues f) (file-opens f r none) r (number-good f r none))
+    let o = none-is (checkTests f r) (openValues f) (openValues f) .1 (none, refl) in
+    c .kept .0 ∙ round-found f (openValues f) r o ∙ sym (round-part f (openValues f) r o)
 
 lookup-bad : (c : call.LookupCall) (n : ℕ) → First (checkTests (call.lookupFile c) (call.lookupRound c)) n → call.lookupResult c ≡ []
 lookup-bad c n h =

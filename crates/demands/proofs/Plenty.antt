@@ -1,31 +1,30 @@
 -- Calls that succeed wherever the definitions say so, and from them every plan and every list of rounds that can be built.
 use mathlib.Core.Path.{_≡_, refl, sym, ap, ap₂, subst, _∙_}
 use mathlib.Core.Bool.{Bool, true, false, not, _&&_, _||_}
-use mathlib.Core.List.{List, [], _∷_, _++_}
+use mathlib.Core.List.{List, [], _∷_}
 use Prim.Native.Nat.{ℕ, _≤_, _<_}
 use native.Mathlib.Omega.{arith}
 use borrow.Author.Tests.{eq-eqb, ne-eqb, le-leb, le-ltb}
 use lib.Dec.{T, leb, ltb, eqb, eqb-refl}
-use lib.ListN.{length, getD, take, drop, replicate, length-replicate}
-use lib.Seq.{take-at}
+use lib.ListN.{length, take, replicate, length-replicate}
 use Rattle.laws.specs.Members.{_∈_, here, there}
 use Rattle.laws.specs.Tests.{T-true, T-and, T-not}
-use Rattle.answer.specs.Outcome.{Outcome, success, outcome, filled}
-use Rattle.answer.proofs.Outcomes.{outcome-values}
+use Rattle.answer.specs.Outcome.{Outcome, success, outcome, fillTests, fillAnswer, fillOut}
+use Rattle.answer.proofs.Fills.{fill-wrote}
 use Rattle.record.specs.Record.{size1 as recordSize1, size2 as recordSize2, isRecord}
-use Rattle.compose.specs.Compose.{seriesBytes, parallelBytes, sameSizes, recordTests, joinTests, seriesAnswer, seriesOut, parallelAnswer, parallelOut}
+use Rattle.compose.specs.Compose.{seriesBytes, parallelBytes, sameSizes, recordTests, seriesAnswer, seriesOut, parallelAnswer, parallelOut}
 use Rattle.sections.specs.File.{studyOf}
 use Rattle.network.specs.Round.{size1 as studySize1, size2 as studySize2}
-use Rattle.search.specs.Search.{searchBytes, roundTests, searchAnswer, searchOut}
+use Rattle.study.specs.Calls.{roundTests}
+use Rattle.search.specs.Search.{searchBytes, searchAnswer, searchOut}
 use Rattle.soundness.specs.Tally.{head, size1, size2, rounds, words, noRoom, isSound}
 use Rattle.soundness.proofs.Sounds.{sound-is}
 use Rattle.tally.specs.Calls.{newAnswer, newOut, addAnswer, addOut}
 use Rattle.tally.specs.Adds.{Tallies}
 use Rattle.reliability.specs.Calls.{rateAnswer}
-use Rattle.writer.specs.Writer.{Given, studyBytes, writeTests, writeAnswer, writeOut}
+use Rattle.writer.specs.Writer.{Given, studyBytes, givenTests, writeAnswer, writeOut}
 use Rattle.plan.specs.Plan.{Plan, searched, series, parallel, PlanSized}
 use Rattle.plan.specs.Calls.{Through, none, Handed, Searched, RowJoined, SideJoined, Built}
-use Rattle.plan.proofs.Told.{room}
 use Rattle.plan.proofs.Plans.{sound, one-size}
 use Rattle.survival.specs.Calls.{Begun, Added, Tallied, AllSearched, Rating}
 use Rattle.survival.proofs.Tallies.{run, as-many}
@@ -35,17 +34,8 @@ use Rattle.demands.proofs.Numbers.{none-is, none-append, fits}
 use Rattle.demands.proofs.Made.{search-made, row-made, side-made, fresh-made, add-made, reliability-made, writer-made}
 
 -- what a successful call filled, handed on at once
-at-once : (ts : List (ℕ × Bool)) (bytes s left : List ℕ) (n : ℕ) (a : Outcome) → a ≡ outcome ts (length bytes ∷ []) → left ≡ filled (outcome ts (length bytes ∷ [])) bytes s
-    → outcome ts (length bytes ∷ []) ≡ success (n ∷ []) → Handed a left bytes
-at-once ts bytes s left n a e l o =
-    let h : length bytes ≡ n = ap (λ v. getD v 0 0) (outcome-values ts (length bytes ∷ []) (n ∷ []) o) in
-    record {
-      size = n;
-      success-is = e ∙ o;
-      slice = left;
-      through = none;
-      part-is = sym (ap (take n) l ∙ ap (λ (x : Outcome). take n (filled x bytes s)) o ∙ take-at bytes (drop (length bytes) s) n h);
-    }
+at-once : (ts : List (ℕ × Bool)) (bytes s left : List ℕ) (n : ℕ) (a : Outcome) → a ≡ fillAnswer ts bytes (length s) → left ≡ fillOut ts bytes s → fillAnswer ts bytes (length s) ≡ success (n ∷ []) → Handed a left bytes
+at-once ts bytes s left n a e l o = record { size = n; success-is = e ∙ o; slice = left; through = none; part-is = sym (ap (take n) l ∙ fill-wrote ts bytes s n o) }
 
 pub searched-by : (f : List ℕ) (r : ℕ) (s : List ℕ) (n : ℕ) → searchAnswer f r (length s) ≡ success (n ∷ []) → Searched f r (searchBytes f r)
 searched-by f r s n o =
@@ -57,7 +47,7 @@ searched-by f r s n o =
       made = c;
       file-is = m .1;
       round-is = m .2;
-      handed = at-once (roundTests f r ++ room (searchBytes f r) s) (searchBytes f r) s (call.searchLeft c) n (call.searchResult c) a l o;
+      handed = at-once (roundTests f r) (searchBytes f r) s (call.searchLeft c) n (call.searchResult c) a l o;
     }
 
 pub row-by : (y z s : List ℕ) (n : ℕ) → seriesAnswer y z (length s) ≡ success (n ∷ []) → RowJoined y z (seriesBytes y z)
@@ -70,7 +60,7 @@ row-by y z s n o =
       made = c;
       first-is = m .1;
       second-is = m .2;
-      handed = at-once (joinTests y z (seriesBytes y z) (length s)) (seriesBytes y z) s (call.seriesLeft c) n (call.seriesResult c) a l o;
+      handed = at-once (recordTests y z) (seriesBytes y z) s (call.seriesLeft c) n (call.seriesResult c) a l o;
     }
 
 pub side-by : (y z s : List ℕ) (n : ℕ) → parallelAnswer y z (length s) ≡ success (n ∷ []) → SideJoined y z (parallelBytes y z)
@@ -83,7 +73,7 @@ side-by y z s n o =
       made = c;
       first-is = m .1;
       second-is = m .2;
-      handed = at-once (joinTests y z (parallelBytes y z) (length s)) (parallelBytes y z) s (call.parallelLeft c) n (call.parallelResult c) a l o;
+      handed = at-once (recordTests y z) (parallelBytes y z) s (call.parallelLeft c) n (call.parallelResult c) a l o;
     }
 
 pub wrote-by : (g : Given) (s : List ℕ) (n : ℕ) → writeAnswer g (length s) ≡ success (n ∷ []) → Wrote g (studyBytes g)
@@ -92,7 +82,7 @@ wrote-by g s n o =
     let c = m .0 in
     let a : call.writeResult c ≡ writeAnswer g (length s) = c .kept .0 ∙ ap₂ (λ (h : Given) i. writeAnswer h (length i)) (m .1) (m .2) in
     let l : call.writeLeft c ≡ writeOut g s = c .kept .1 ∙ ap₂ writeOut (m .1) (m .2) in
-    record { made = c; given-is = m .1; handed = at-once (writeTests g (length s)) (studyBytes g) s (call.writeLeft c) n (call.writeResult c) a l o }
+    record { made = c; given-is = m .1; handed = at-once (givenTests g) (studyBytes g) s (call.writeLeft c) n (call.writeResult c) a l o }
 
 pub begun-by : (n1 n2 : ℕ) (s : List ℕ) → newAnswer n1 n2 (length s) ≡ success (0 ∷ []) → Begun n1 n2 (newOut n1 n2 s)
 begun-by n1 n2 s o =
@@ -118,8 +108,8 @@ rating-by t p1 p2 s m r o =
     record { made = c; tally-is = k .1; chance1-is = k .2; chance2-is = k .3; success-is = a ∙ o }
 
 -- ---- a slice just long enough
-just-fits : (ts : List (ℕ × Bool)) (b : List ℕ) → None ts → outcome (ts ++ room b b) (length b ∷ []) ≡ success (length b ∷ [])
-just-fits ts b n = none-is (ts ++ room b b) (length b ∷ []) (length b ∷ []) .1 (none-append ts (room b b) .1 (n, (fits (length b) (length b) .1 (omega arith), tt)), refl)
+just-fits : (ts : List (ℕ × Bool)) (b : List ℕ) → None ts → fillAnswer ts b (length b) ≡ success (length b ∷ [])
+just-fits ts b n = none-is (fillTests ts b (length b)) (length b ∷ []) (length b ∷ []) .1 (none-append ts ((15, ltb (length b) (length b)) ∷ []) .1 (n, (fits (length b) (length b) .1 (omega arith), tt)), refl)
 
 pub round-made : (f : List ℕ) (r : ℕ) → None (roundTests f r) → Searched f r (searchBytes f r)
 round-made f r n = let b = searchBytes f r in searched-by f r b (length b) (just-fits (roundTests f r) b n)

@@ -1,5 +1,5 @@
 -- The sample ring, by evaluation and by the demands.
-use mathlib.Core.Path.{_≡_, refl, subst, ap, ap₂, _∙_}
+use mathlib.Core.Path.{_≡_, refl, subst, ap₂, _∙_}
 use mathlib.Core.Logic.{∥∥₁-map}
 use mathlib.Core.List.{List, [], _∷_}
 use Prim.Native.Nat.{ℕ}

@@ -9,7 +9,7 @@ use Rattle.plan.proofs.Plans as plans
 use Rattle.plan.proofs.Laws as laws
 use Rattle.plan.proofs.Told.{search-passed}
 use Rattle.sections.specs.File.{studyOf}
-use Rattle.search.specs.Search.{roundTests}
+use Rattle.study.specs.Calls.{roundTests}
 use Rattle.search.specs.Claims.{pathPair}
 use Rattle.demands.specs.Terms.{PlanPasses}
 use Rattle.demands.specs.Demands.{Demand3}

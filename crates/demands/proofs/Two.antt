@@ -13,13 +13,15 @@ use Rattle.orders.specs.Order.{count}
 use Rattle.slices.specs.Bytes.{partAt}
 use Rattle.parts.specs.Study.{Study, roundSize}
 use Rattle.sections.specs.File.{studyOf}
-use Rattle.study.specs.Calls.{badOrders, openAnswer, checkTests, checkAnswer, lookupPart}
-use Rattle.study.proofs.Lookups.{check-ten}
-use Rattle.writer.specs.Writer.{Given, meant, studyBytes, writeAnswer, writeOut}
+use Rattle.study.specs.Calls.{badOrders, openAnswer, openValues, checkTests, checkAnswer, lookupPart, roundTests}
+use Rattle.study.proofs.Lookups.{number-bad}
+use Rattle.writer.specs.Writer.{Given, meant, studyBytes, givenTests, writeAnswer, writeOut}
 use Rattle.writer.specs.ReadBack.{ReadsBack}
-use Rattle.writer.proofs.Reading.{write-reads-back, write-first}
+use Rattle.writer.proofs.Reading.{write-reads-back}
+use Rattle.answer.proofs.Fills.{fill-wrote}
+use Rattle.answer.proofs.Outcomes.{refused-as}
 use Rattle.network.specs.Round.{size1 as studySize1, size2 as studySize2, RoundHolds}
-use Rattle.search.specs.Search.{searchBytes, roundTests}
+use Rattle.search.specs.Search.{searchBytes}
 use Rattle.search.proofs.Claims.{claims}
 use Rattle.chance.specs.Chance.{sumE, scaleD}
 use Rattle.soundness.specs.Tally.{size1, size2, rounds, cell}
@@ -71,7 +73,7 @@ module _ (g : Given) (f : List ℕ) (w : Wrote g f) where
   file-is =
       let s = call.writeLent (w .made) in
       let l : call.writeLeft (w .made) ≡ writeOut g s = rw (← w .given-is) (w .made .kept .1) in
-      handed-part (w .handed) ∙ ap (take (w .handed .size)) l ∙ write-first g s (w .handed .size) written-answer
+      handed-part (w .handed) ∙ ap (take (w .handed .size)) l ∙ fill-wrote (givenTests g) (studyBytes g) s (w .handed .size) written-answer
 
   back : ReadsBack g f
   back = subst (ReadsBack g) (sym file-is) (write-reads-back g (call.writeLent (w .made)) (w .handed .size ∷ []) written-answer)
@@ -85,7 +87,7 @@ module _ (g : Given) (f : List ℕ) (w : Wrote g f) where
   checks c e =
       let r = call.checkRound c in
       let k = c .kept ∙ ap (λ i. checkAnswer i r) e in
-      (λ h. k ∙ back .check r h, λ h. k ∙ check-ten f _ (back .opens) r h)
+      (λ h. k ∙ back .check r h, λ h. k ∙ refused-as (checkTests f r) (openValues f) (0 ∷ []) 10 (number-bad f _ (back .opens) r h))
 
   looks-up : (c : call.LookupCall) → call.lookupFile c ≡ f → call.lookupRound c < g .total
       → call.lookupResult c ≡ partAt (call.lookupRound c * roundSize (g .nodes)) (roundSize (g .nodes)) (g .rounds)

@@ -20,10 +20,9 @@ use Rattle.orders.specs.Order.{count}
 use Rattle.slices.specs.Bytes.{partAt, Inside}
 use Rattle.parts.specs.Study.{Arc, roundSize}
 use Rattle.sections.specs.File.{trailerAt, trailer, nodesOf, studyOf}
-use Rattle.study.specs.Calls.{openTests, openValues, checkTests}
+use Rattle.study.specs.Calls.{openTests, openValues, checkTests, roundTests}
 use Rattle.writer.specs.Writer.{Given, meant, studyBytes, givenTests}
 use Rattle.network.specs.Round.{size1 as studySize1, size2 as studySize2, RoundHolds}
-use Rattle.search.specs.Search.{roundTests}
 use Rattle.chance.specs.Chance.{weights, sumE, scaleD, Near}
 use Rattle.weights.specs.Calls.{weightsTests}
 use Rattle.soundness.specs.Tally.{size1 as tallySize1, size2 as tallySize2, rounds, cell, Sound}

@@ -1,6 +1,6 @@
 -- THE SAMPLE RING (document 01, R2) through the C interface: medlarbrace_search run on the machine.
 use mathlib.Core.Path.{_≡_}
-use mathlib.Core.List.{List, [], _∷_}
+use mathlib.Core.List.{[], _∷_}
 use mir.Val.{vint}
 use mir.Syntax.{w32}
 use Rattle.samples.specs.Table.{ringFile, ten, eight}

@@ -1,15 +1,13 @@
 // Labels that spread along arcs, backward from the target, the largest level first.
-use front::Pos1;
 use front::Pos2;
 use relax::Step;
 use relax::spread;
 use relax::step_to;
 use slices::wide;
-ghost use mathlib.Core.Path.{_≡_};
 ghost use mathlib.Core.List.{[], _∷_};
-ghost use Prim.Native.Nat.{ℕ, _+_, _-_, _/_, _≤_, _<_};
-ghost use lib.ListN.{length, getD};
-ghost use Rattle.relax.specs.State.{graphOf, moved, Chains, Work, Next, Still, Kept, Room, Lengths, start};
+ghost use Prim.Native.Nat.{_-_, _/_, _≤_, _<_};
+ghost use lib.ListN.{length};
+ghost use Rattle.relax.specs.State.{graphOf, Chains, Work, Next, Still, Room, Lengths, start};
 
 // All that a level reaches from a node, and what then waits below it: until the source has the
 // level, or nothing is left.

@@ -10,7 +10,7 @@ use lib.ListN.{length, getD, take, replicate}
 use lib.Seq.{take-suc, take-length}
 use borrow.Author.Tests.{lt-ltb, le-ltb, ltb-true, ltb-false}
 use Rattle.answer.specs.Outcome.{Outcome, success, refused}
-use Rattle.answer.proofs.Outcomes.{refused-apart, outcome-success}
+use Rattle.answer.proofs.Outcomes.{refused-apart}
 use Rattle.study.specs.Calls.{openAnswer}
 use Rattle.study.proofs.Lookups.{open-values, open-fits, open-parts}
 use Rattle.search.specs.Search.{searchBytes}

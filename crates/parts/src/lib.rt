@@ -1,14 +1,14 @@
 // The tests of a study's parts that opening and writer share: numbers 2, 3 and 5 to 8.
 use answer::Done;
 use answer::Refusal;
-use orders::count;
 use slices::byte;
 ghost use mathlib.Core.Path.{_≡_};
 ghost use mathlib.Core.List.{[], _∷_};
 ghost use Prim.Native.Nat.{_≤_};
 ghost use lib.ListN.{length};
 ghost use Rattle.answer.specs.Outcome.{done, outcome};
-ghost use Rattle.parts.specs.Tests.{badCounts, badEnds, badClasses, badSizes, badEndClasses, badArcs, partTests};
+ghost use Rattle.orders.specs.Order.{count};
+ghost use Rattle.parts.specs.Tests.{badCounts, badEnds, badClasses, badArcs, partTests};
 
 // Number 2: the numbers of nodes, arcs and rounds.
 pub fn bad_counts(nodes: usize, arcs: usize, rounds: usize) -> bool
@@ -52,15 +52,23 @@ fn bad_arcs(n: u8, arcs: &[u8]) -> bool
     bad
 }
 
-// Numbers 5 to 8.
-pub fn test_parts(nodes: &[u8], arcs: &[u8], source: usize, target: usize) -> Done
-    requires { ⌜ length (now nodes) ≤ 160 ⌝ }
+// Numbers 5 to 8, of nodes of which n1 are of class 1 and n2 of class 2.
+pub fn test_parts(
+    nodes: &[u8],
+    arcs: &[u8],
+    n1: usize,
+    n2: usize,
+    source: usize,
+    target: usize,
+) -> Done
+    requires few { ⌜ length (now nodes) ≤ 160 ⌝ }
+    requires sizes { ⌜ (n1 ≡ count 1 (now nodes)) × (n2 ≡ count 2 (now nodes)) ⌝ }
     ensures { λ r. ⌜ done r ≡ outcome (partTests (length (now (nodes .entry))) (now (nodes .entry)) (now (arcs .entry)) source target) (0 ∷ []) ⌝ }
 {
     if bad_classes(nodes) {
         return Done::Refused(Refusal::NodeClass);
     }
-    if (64 < count(nodes, 1)) | (64 < count(nodes, 2)) {
+    if (64 < n1) | (64 < n2) {
         return Done::Refused(Refusal::ClassSize);
     }
     if (byte(nodes, source) != 0) | (byte(nodes, target) != 0) {

@@ -5,7 +5,6 @@ use trial::put;
 use trial::record_holds;
 use trial::word;
 ghost use Prim.Native.Nat.{_+_, _*_, _≤_, _<_};
-ghost use lib.ListN.{length};
 
 // A place that no slice has.
 pub(crate) const PAST: usize = 1000000;

@@ -1,12 +1,13 @@
 -- `buffer::deliver` hands on the bytes that the count says, or all of them where it says more.
 use mathlib.Core.Path.{_≡_, sym, ap, _∙_}
+use mathlib.Core.List.{[]}
 use Prim.Native.Nat.{_+_, _-_, _*_}
 use native.Mathlib.Omega.{arith}
 use borrow.Author.Needs.{needs}
 use lib.ListN.{length, take}
 use lib.Seq.{take-all}
 use Rattle.record.specs.Record.{count}
-use Rattle.answer.specs.Outcome.{deliverAnswer, deliverOut}
+use Rattle.answer.specs.Outcome.{fillAnswer, fillOut}
 use Rattle.buffer.specs.Buffer.{recordIn}
 use Rattle.buffer.proofs.deliver.Statement.{statement}
 use Rattle.buffer.proofs.deliver.Tie as tie
@@ -45,7 +46,7 @@ returns c =
     let n : 3 + 2 * c .before .before .before .before .before .before .before .wide .result - 0 ≡ 3 + 2 * count b = omega arith in
     let e = ap (λ k. take k b) n in
     let d = c .before .before .deliver .ensures in
-    (d .0 ∙ ap (λ x. deliverAnswer x (length out)) e, d .1 ∙ ap (λ x. deliverOut x out) e)
+    (d .0 ∙ ap (λ x. fillAnswer [] x (length out)) e, d .1 ∙ ap (λ x. fillOut [] x out) e)
 
 slice-aggregate-deliver : tie.Need-slice-aggregate-deliver
 slice-aggregate-deliver c = search needs
@@ -62,7 +63,7 @@ returns-2 c =
     let out = c .before .before .before .before .before .before .before .before .args .out .now in
     let e : b ≡ recordIn b = sym (take-all (3 + 2 * count b) b (omega arith)) in
     let d = c .before .before .deliver2 .ensures in
-    (d .0 ∙ ap (λ x. deliverAnswer x (length out)) e, d .1 ∙ ap (λ x. deliverOut x out) e)
+    (d .0 ∙ ap (λ x. fillAnswer [] x (length out)) e, d .1 ∙ ap (λ x. fillOut [] x out) e)
 
 pub deliver-spec : {M : Type 1} → statement M
 deliver-spec =

@@ -3,8 +3,9 @@ use mathlib.Core.Path.{_≡_, sym, ap, _∙_}
 use mathlib.Core.List.{[], _∷_}
 use borrow.Author.Needs.{needs}
 use Rattle.answer.specs.Outcome.{success, outcome, done}
+use Rattle.answer.proofs.Fills.{fill-refused, fill-delivered}
 use Rattle.compose.specs.Compose.{recordTests, parallelBytes}
-use Rattle.compose.proofs.Answers.{joined-refused, joined-joinable, joined-delivered}
+use Rattle.compose.proofs.Answers.{joined-joinable}
 use Rattle.compose.proofs.parallel.Statement.{statement}
 use Rattle.compose.proofs.parallel.Tie as tie
 
@@ -23,7 +24,7 @@ returns c =
     let s = c .before .before .before .before .before .before .before in
     let x = s .args .left .now in
     let y = s .args .right .now in
-    joined-refused x y _ (sym (c .before .before .before .joinable .ensures) ∙ ap done (c .before .r .given .1)) (parallelBytes x y) (s .args .out .now)
+    fill-refused (recordTests x y) (parallelBytes x y) (s .args .out .now) _ (sym (c .before .before .before .joinable .ensures) ∙ ap done (c .before .r .given .1))
 
 enum-told : tie.Need-enum-told
 enum-told c = search needs
@@ -38,7 +39,7 @@ same-length : tie.Need-same-length
 same-length c = search needs
 
 returns-2 : tie.Need-returns-2
-returns-2 c = let a = c .before .before .before .before .before .before .before .before .before .before .before .args in joined-delivered (a .left .now) (a .right .now) (passed (c .before .before .before .before .before)) (a .out .now) (c .before .before .before .before .merge-parallel .ensures) (c .before .before .deliver .ensures)
+returns-2 c = let a = c .before .before .before .before .before .before .before .before .before .before .before .args in fill-delivered (recordTests (a .left .now) (a .right .now)) (parallelBytes (a .left .now) (a .right .now)) (a .out .now) (passed (c .before .before .before .before .before)) (c .before .before .before .before .merge-parallel .ensures) (c .before .before .deliver .ensures)
 
 pub parallel-spec : {M : Type 1} → statement M
 parallel-spec =

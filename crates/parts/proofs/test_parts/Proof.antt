@@ -8,20 +8,20 @@ use Rattle.parts.proofs.test_parts.Statement.{statement}
 use Rattle.parts.proofs.test_parts.Tie as tie
 
 -- what the tests found, as the definitions have it
-six : (c : tie.After-count2) → (ltb 64 (c .before .count .result) || ltb 64 (c .count2 .result)) ≡ badSizes (c .before .before .before .before .before .before .args .nodes .now)
-six c = ap₂ (λ n m. ltb 64 n || ltb 64 m) (c .before .count .ensures .0) (c .count2 .ensures .0)
+six : (c : tie.Else1) → let a = c .before .before .before .before .args in (ltb 64 (a .n1) || ltb 64 (a .n2)) ≡ badSizes (a .nodes .now)
+six c = ap₂ (λ n m. ltb 64 n || ltb 64 m) (c .before .before .before .before .pre .1 .0) (c .before .before .before .before .pre .1 .1)
 
-seven : (c : tie.After-byte2) → let a = c .before .before .before .before .before .before .before .before .before .args in (not (eqb (c .before .byte .result) 0) || not (eqb (c .byte2 .result) 0)) ≡ badEndClasses (a .nodes .now) (a .source) (a .target)
+seven : (c : tie.After-byte2) → let a = c .before .before .before .before .before .before .before .args in (not (eqb (c .before .byte .result) 0) || not (eqb (c .byte2 .result) 0)) ≡ badEndClasses (a .nodes .now) (a .source) (a .target)
 seven c = ap₂ (λ x y. not (eqb x 0) || not (eqb y 0)) (c .before .byte .ensures) (c .byte2 .ensures)
 
 -- a test that was passed
 not-5 : (c : tie.Else1) → badClasses (c .before .before .before .before .args .nodes .now) ≡ false
 not-5 c = sym (c .before .bad-classes .ensures) ∙ c .if1 .left
 
-not-6 : (c : tie.Else2) → badSizes (c .before .before .before .before .before .before .before .args .nodes .now) ≡ false
+not-6 : (c : tie.Else2) → badSizes (c .before .before .before .before .before .args .nodes .now) ≡ false
 not-6 c = sym (six (c .before)) ∙ c .if2 .left
 
-not-7 : (c : tie.Else3) → let a = c .before .before .before .before .before .before .before .before .before .before .args in badEndClasses (a .nodes .now) (a .source) (a .target) ≡ false
+not-7 : (c : tie.Else3) → let a = c .before .before .before .before .before .before .before .before .args in badEndClasses (a .nodes .now) (a .source) (a .target) ≡ false
 not-7 c = sym (seven (c .before)) ∙ c .if3 .left
 
 bad-classes-requires : tie.Need-bad-classes-requires
@@ -30,14 +30,8 @@ bad-classes-requires c κs = search needs
 returns : tie.Need-returns
 returns c = rw (sym (c .before .bad-classes .ensures) ∙ c .if1 .taken)
 
-count-requires : tie.Need-count-requires
-count-requires c κs = search needs
-
-count-requires-2 : tie.Need-count-requires-2
-count-requires-2 c κs = search needs
-
 returns-2 : tie.Need-returns-2
-returns-2 c = rw (not-5 (c .before .before .before), sym (six (c .before)) ∙ c .if2 .taken)
+returns-2 c = rw (not-5 (c .before), sym (six (c .before)) ∙ c .if2 .taken)
 
 byte-requires : tie.Need-byte-requires
 byte-requires c κs = search needs
@@ -46,7 +40,7 @@ byte-requires-2 : tie.Need-byte-requires-2
 byte-requires-2 c κs = search needs
 
 returns-3 : tie.Need-returns-3
-returns-3 c = rw (not-5 (c .before .before .before .before .before .before), not-6 (c .before .before .before), sym (seven (c .before)) ∙ c .if3 .taken)
+returns-3 c = rw (not-5 (c .before .before .before .before), not-6 (c .before .before .before), sym (seven (c .before)) ∙ c .if3 .taken)
 
 cast-bad-arcs : tie.Need-cast-bad-arcs
 cast-bad-arcs c = search needs
@@ -55,10 +49,10 @@ bad-arcs-requires : tie.Need-bad-arcs-requires
 bad-arcs-requires c κs = search needs
 
 returns-4 : tie.Need-returns-4
-returns-4 c = rw (not-5 (c .before .before .before .before .before .before .before .before), not-6 (c .before .before .before .before .before), not-7 (c .before .before), sym (c .before .bad-arcs .ensures) ∙ c .if4 .taken)
+returns-4 c = rw (not-5 (c .before .before .before .before .before .before), not-6 (c .before .before .before .before .before), not-7 (c .before .before), sym (c .before .bad-arcs .ensures) ∙ c .if4 .taken)
 
 returns-5 : tie.Need-returns-5
-returns-5 c = rw (not-5 (c .before .before .before .before .before .before .before .before), not-6 (c .before .before .before .before .before), not-7 (c .before .before), sym (c .before .bad-arcs .ensures) ∙ c .if4 .left)
+returns-5 c = rw (not-5 (c .before .before .before .before .before .before), not-6 (c .before .before .before .before .before), not-7 (c .before .before), sym (c .before .bad-arcs .ensures) ∙ c .if4 .left)
 
 pub test-parts-spec : {M : Type 1} → statement M
 test-parts-spec =
@@ -66,8 +60,6 @@ test-parts-spec =
     (tie.spec
     bad-classes-requires
     returns
-    count-requires
-    count-requires-2
     returns-2
     byte-requires
     byte-requires-2

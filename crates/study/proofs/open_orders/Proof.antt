@@ -1,0 +1,77 @@
+-- `study::open_orders` opens the file for the round, then tests its orders.
+use mathlib.Core.Path.{_≡_, sym, ap, ap₂, _∙_}
+use mathlib.Core.Bool.{true, false}
+use mathlib.Core.List.{[], _∷_}
+use native.Mathlib.Omega.{arith}
+use borrow.Author.Needs.{needs}
+use borrow.Author.Tests.{not-true, not-false}
+use lib.ListN.{length, getD}
+use Rattle.answer.specs.Outcome.{success, outcome, opened, headerValues}
+use Rattle.answer.proofs.Outcomes.{outcome-refused}
+use Rattle.orders.specs.Order.{count, isRound}
+use Rattle.sections.specs.File.{nodesOf, roundOf}
+use Rattle.study.specs.Calls.{badOrders, openValues, checkTests}
+use Rattle.study.proofs.Lookups.{open-values, study-within, round-opens, size-small, round-small, round-part, round-length, round-eleven}
+use Rattle.study.proofs.open_orders.Statement.{statement}
+use Rattle.study.proofs.open_orders.Tie as tie
+
+-- the file opened for the round, with the values of the header
+opens : (c : tie.After-h) → outcome (checkTests (c .before .before .before .before .args .file .now) (c .before .before .before .before .args .round)) (openValues (c .before .before .before .before .args .file .now)) ≡ success (headerValues (c .h .given .0 .0))
+opens c = sym (c .before .before .open-round .ensures) ∙ ap opened (c .h .given .1)
+
+-- the test of its orders
+tested : (c : tie.After-is-round) → isRound (nodesOf (c .before .before .before .before .before .before .before .before .before .args .file .now)) (roundOf (c .before .before .before .before .before .before .before .before .before .args .file .now) (c .before .before .before .before .before .before .before .before .before .args .round)) ≡ c .is-round .result
+tested c = sym (c .is-round .ensures ∙ ap₂ isRound (c .before .node-bytes .ensures) (c .before .before .round-at .ensures .0 ∙ round-part (c .before .before .before .before .before .before .before .before .before .args .file .now) _ (c .before .before .before .before .before .before .before .before .before .args .round) (opens (c .before .before .before .before .before))))
+
+open-round-requires : tie.Need-open-round-requires
+open-round-requires c κs = search needs
+
+enum-known-r : tie.Need-enum-known-r
+enum-known-r c = search needs
+
+enum-known-h : tie.Need-enum-known-h
+enum-known-h c = search needs
+
+add-round-at : tie.Need-add-round-at
+add-round-at c = omega (arith, size-small (c .before .before .before .before .before .before .args .file .now) _ (c .before .before .before .before .before .before .args .round) (opens (c .before .before)))
+
+round-at-requires : tie.Need-round-at-requires
+round-at-requires c κs = round-small (c .before .before .before .before .before .before .args .file .now) _ (c .before .before .before .before .before .before .args .round) (opens (c .before .before))
+
+node-bytes-requires : tie.Need-node-bytes-requires
+node-bytes-requires c κs = search needs
+
+is-round-requires : tie.Need-is-round-requires
+is-round-requires c κs =
+    let f = c .before .before .before .before .before .before .before .before .args .file .now in
+    let r = c .before .before .before .before .before .before .before .before .args .round in
+    let o = round-opens f _ r (opens (c .before .before .before .before)) in
+    let nodes = c .node-bytes .ensures in
+    let long = ap length (c .before .round-at .ensures .0 ∙ round-part f _ r (opens (c .before .before .before .before))) in (
+      (omega (arith, ap length nodes, study-within f _ o .nodes-most), omega (arith, long, round-length f _ r (opens (c .before .before .before .before)))),
+      (sym (ap (count 1) nodes ∙ ap (λ l. getD l 5 0) (open-values f _ o)), sym (ap (count 2) nodes ∙ ap (λ l. getD l 6 0) (open-values f _ o))),
+    )
+
+returns : tie.Need-returns
+returns c = sym (round-eleven (c .before .before .before .before .before .before .before .before .before .before .args .file .now) _ (c .before .before .before .before .before .before .before .before .before .before .args .round) (opens (c .before .before .before .before .before .before)) false (tested (c .before) ∙ not-true _ (c .if1 .taken)))
+
+returns-2 : tie.Need-returns-2
+returns-2 c = let f = c .before .before .before .before .before .args .file .now in let r = c .before .before .before .before .before .args .round in sym (outcome-refused (checkTests f r) ((11, badOrders f r) ∷ []) (openValues f) (openValues f) _ (sym (c .before .before .before .open-round .ensures) ∙ ap opened (c .before .r .given .1)))
+
+returns-3 : tie.Need-returns-3
+returns-3 c = sym (round-eleven (c .before .before .before .before .before .before .before .before .before .before .args .file .now) _ (c .before .before .before .before .before .before .before .before .before .before .args .round) (opens (c .before .before .before .before .before .before)) true (tested (c .before) ∙ not-false _ (c .if1 .left)))
+
+pub open-orders-spec : {M : Type 1} → statement M
+open-orders-spec =
+    tie.close
+    (tie.spec
+    open-round-requires
+    enum-known-r
+    enum-known-h
+    add-round-at
+    round-at-requires
+    node-bytes-requires
+    is-round-requires
+    returns
+    returns-2
+    returns-3)
