@@ -7,6 +7,7 @@ use Prim.Native.Nat.{ℕ, suc, _+_, _-_, _*_, _≤_, _<_}
 use native.Mathlib.Omega.{arith}
 use lib.ListN.{length, getD, take, drop, length-append, length-set, take-append-drop}
 use lib.Seq.{take-append-seam, length-take-le, take-suc, take-all, getD-take}
+use Rattle.limits.specs.Limits.{maxClass}
 use Rattle.laws.specs.Tests.{T-true, order}
 use Rattle.laws.specs.Members.{_∈_, here}
 use Rattle.laws.specs.Parts.{set-two, drop-two}
@@ -93,7 +94,7 @@ module _ {b : List ℕ} {p : Pair} (q : Puttable b p) where
   size : length l ≡ count b
   size = listed-length r (is .long) ∙ head 2 (omega arith)
 
-  pub few : count b ≤ 65
+  pub few : count b ≤ maxClass + 1
   few = omega (arith, size, form-short n1 n2 l form, head 0 (omega arith), is .small1)
 
   -- the pair that `put` reads
@@ -110,7 +111,7 @@ module _ {b : List ℕ} {p : Pair} (q : Puttable b p) where
   whole h = snoc-of l (pairOf 0 0) (omega (arith, size))
 
   -- the record after p is stored at a place
-  after : (at : ℕ) → at ≤ count b → at ≤ 64 → take at l ++ (p ∷ []) ≡ front n1 n2 (l ++ (p ∷ [])) → recordIn (stored b at p) ≡ frontBytes n1 n2 (l ++ (p ∷ []))
+  after : (at : ℕ) → at ≤ count b → at ≤ maxClass → take at l ++ (p ∷ []) ≡ front n1 n2 (l ++ (p ∷ [])) → recordIn (stored b at p) ≡ frontBytes n1 n2 (l ++ (p ∷ []))
   after at h k e = begins-in (begins-stored begins at p (omega (arith, size)) (omega (arith, q .long))) ∙ ap (recordBytes n1 n2) e
 
   pub wrote-first : count b ≡ 0 → recordIn (stored b 0 p) ≡ frontBytes n1 n2 (l ++ (p ∷ []))
@@ -149,7 +150,7 @@ module _ {b : List ℕ} {p : Pair} (q : Puttable b p) where
           let up : last .p2 .0 < p .p2 .0 = ⊎-elim (λ le. absurd (c (lower, le))) (λ lt. lt) (order (p .p2 .0) (last .p2 .0)) in
           (⊎-elim (λ le. absurd (d (le, omega arith, omega arith))) (λ lt. lt) (order (last .p1 .0) (p .p1 .0)), up)
 
-      pub room : count b ≤ 64
+      pub room : count b ≤ maxClass
       room =
           let s = form-short n1 n2 ((before ++ (last ∷ [])) ++ (p ∷ [])) (put-form before last p form-split (q .inside) lower falls) in
           omega (arith, s, ap length (whole some), length-append (before ++ (last ∷ [])) (p ∷ []), size, head 0 (omega arith), is .small1)

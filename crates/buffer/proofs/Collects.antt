@@ -3,10 +3,11 @@ use mathlib.Core.Path.{_≡_, refl, sym, ap, ap₂, _∙_, subst}
 use mathlib.Core.Logic.{⊎-elim}
 use mathlib.Core.Bool.{Bool, false, _||_, or-false, or-assoc}
 use mathlib.Core.List.{List, [], _∷_, _++_, List·Memᴰ·append-cases, List·Memᴰ·eq-of-singleton}
-use Prim.Native.Nat.{ℕ, _+_, _*_, _≤_, _<_}
+use Prim.Native.Nat.{ℕ, _+_, _*_, _≤_, _<_, _-_}
 use native.Mathlib.Omega.{arith}
 use lib.ListN.{length, getD, replicate}
 use lib.Seq.{getD-take}
+use Rattle.limits.specs.Limits.{maxClass}
 use Rattle.laws.specs.Members.{_∈_, any-append}
 use Rattle.front.specs.declared.Pair.{Pair}
 use Rattle.front.specs.Pair.{holdsAt}
@@ -26,8 +27,8 @@ Where = ℕ → ℕ → Bool
 -- the buffer b has collected some of `whole`; `rest` is to come, with no p1 above `top`
 pub record Collects (n1 n2 : ℕ) (whole rest : Where) (top : ℕ) (b : List ℕ) : Type 0 where
   pub long : length b ≡ longest
-  pub small1 : n1 ≤ 64
-  pub small2 : n2 ≤ 64
+  pub small1 : n1 ≤ maxClass
+  pub small2 : n2 ≤ maxClass
   pub done : List Pair
   pub begins : recordIn b ≡ recordBytes n1 n2 done
   pub form : RecordForm n1 n2 done
@@ -35,7 +36,7 @@ pub record Collects (n1 n2 : ℕ) (whole rest : Where) (top : ℕ) (b : List ℕ
   pub above : (q : Pair) → q ∈ done → top ≤ q .p1 .0
 
 -- nothing is collected yet
-pub collects-none : {n1 n2 : ℕ} {whole : Where} {top : ℕ} {b : List ℕ} → n1 ≤ 64 → n2 ≤ 64 → b ≡ n1 ∷ n2 ∷ replicate 131 0 → Collects n1 n2 whole whole top b
+pub collects-none : {n1 n2 : ℕ} {whole : Where} {top : ℕ} {b : List ℕ} → n1 ≤ maxClass → n2 ≤ maxClass → b ≡ n1 ∷ n2 ∷ replicate (longest - 2) 0 → Collects n1 n2 whole whole top b
 collects-none h k e =
     record {
       long = ap length e;

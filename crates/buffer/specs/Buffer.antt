@@ -4,14 +4,15 @@ use mathlib.Core.List.{List}
 use Prim.Native.Nat.{ℕ, _+_, _*_, _≤_}
 use lib.Dec.{T}
 use lib.ListN.{length, set, take}
+use Rattle.limits.specs.Limits.{maxClass}
 use Rattle.laws.specs.Members.{_∈_}
 use Rattle.front.specs.declared.Pair.{Pair}
 use Rattle.front.specs.Front.{Within}
 use Rattle.record.specs.Record.{size1, size2, count, listed, isRecord}
 
--- the most bytes that a record has: 3, and 2 for each of 65 pairs
+-- the most bytes that a record has: 3, and 2 for each pair, of which there are at most one more than the smaller class has nodes
 abbrev pub longest : ℕ
-longest = 133
+longest = 3 + 2 * (maxClass + 1)
 
 -- the record that a buffer begins with
 abbrev pub recordIn : List ℕ → List ℕ

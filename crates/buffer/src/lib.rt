@@ -1,16 +1,18 @@
 // A record that is built pair by pair, at the start of a buffer with room for any record.
 use answer::Written;
 use front::Pair;
+use limits::MAX_CLASS;
 ghost use mathlib.Core.Path.{_≡_};
 ghost use mathlib.Core.List.{[], _++_, _∷_};
-ghost use Prim.Native.Nat.{_≤_, _<_};
+ghost use Prim.Native.Nat.{_≤_, _<_, _-_};
 ghost use lib.ListN.{length, replicate};
+ghost use Rattle.limits.specs.Limits.{maxClass};
 ghost use Rattle.answer.specs.Outcome.{written, fillAnswer, fillOut};
 ghost use Rattle.record.specs.Record.{size1, size2, listed, frontBytes};
 ghost use Rattle.buffer.specs.Buffer.{longest, recordIn, stored, Puttable};
 
-// The most bytes that a record has: 3, and 2 for each of 65 pairs.
-pub const LONGEST: usize = 133;
+// The most bytes that a record has: 3, and 2 for each pair.
+pub const LONGEST: usize = 3 + 2 * (MAX_CLASS + 1);
 
 fn wide(x: u8) -> usize
     ensures { λ r. ⌜ (r ≡ x) × (r < 256) ⌝ }
@@ -20,7 +22,7 @@ fn wide(x: u8) -> usize
 
 // An empty record in a buffer with room for any.
 pub fn empty(n1: u8, n2: u8) -> [u8; LONGEST]
-    ensures { λ r. ⌜ r ≡ n1 ∷ n2 ∷ replicate 131 0 ⌝ }
+    ensures { λ r. ⌜ r ≡ n1 ∷ n2 ∷ replicate (longest - 2) 0 ⌝ }
 {
     let mut buffer = [0u8; LONGEST];
     buffer[0] = n1;
@@ -30,7 +32,7 @@ pub fn empty(n1: u8, n2: u8) -> [u8; LONGEST]
 
 // Stores p at a place, as the last pair then.
 fn place(buffer: &mut [u8; LONGEST], at: u8, p: Pair)
-    requires { ⌜ at ≤ 64 ⌝ }
+    requires { ⌜ at ≤ maxClass ⌝ }
     ensures { λ _. ⌜ now (buffer .exit) ≡ stored (now (buffer .entry)) at p ⌝ }
 {
     let i = 3 + 2 * wide(at);

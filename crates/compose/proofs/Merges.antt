@@ -3,12 +3,13 @@ use mathlib.Core.Path.{_≡_, sym, ap, ap₂, _∙_, subst}
 use mathlib.Core.Logic.{_⊎_, inl, ⊎-elim}
 use mathlib.Core.Bool.{_&&_, _||_, and-comm, and-false, or-assoc, or-comm, and-or-distrib-right}
 use mathlib.Core.List.{List, [], _∷_, _++_}
-use Prim.Native.Nat.{ℕ, zero, suc, _+_, _≤_, _<_, min, max}
+use Prim.Native.Nat.{ℕ, zero, suc, _+_, _≤_, _<_, min, max, _-_}
 use native.Mathlib.Omega.{arith}
 use native.Mathlib.Numerals.{add-one}
 use lib.Dec.{T, eqb, eqb→eq}
 use lib.ListN.{length, getD, drop, replicate, drop-of-length-le, List·getD-eq-default}
 use lib.Seq.{drop-cons}
+use Rattle.limits.specs.Limits.{maxClass}
 use Rattle.laws.specs.Tests.{T-ext, T-and, T-or, order}
 use Rattle.laws.specs.Members.{here, any-out, any-append, at-in}
 use Rattle.laws.specs.Pairwise.{Pairwise, pairwise-drop}
@@ -76,7 +77,7 @@ module _ (x : List ℕ) (r : T (isRecord x)) where
   pub pair-is : (i : ℕ) {p : Pair} → p ≡ pairAt x i → p ≡ at (listed x) i
   pair-is i e = e ∙ pair-at x i (record-is x .0 r .long)
 
-  pub count-is : {k : ℕ} → k ≡ count x → (k ≡ length (listed x)) × (k ≤ 65)
+  pub count-is : {k : ℕ} → k ≡ count x → (k ≡ length (listed x)) × (k ≤ maxClass + 1)
   count-is e = let u = record-is x .0 r in (e ∙ sym (listed-length x (u .long)), omega (arith, record-few x u, u .small1))
 
 -- what is known of the pair at place i of a list in record form
@@ -110,7 +111,7 @@ pub record Merging (rest : List Pair → List Pair → Where) (top : ℕ → ℕ
   pub collects : Collects n1 n2 (rest l r) (rest (drop i l) (drop j r)) (top (at l i .p1 .0) (at r j .p1 .0)) b
 
 -- a merge of two records begins
-pub merging-none : {rest : List Pair → List Pair → Where} {top : ℕ → ℕ → ℕ} {x y b : List ℕ} {u v : ℕ} → Joinable x y → u ≡ size1 x → v ≡ size2 x → b ≡ u ∷ v ∷ replicate 131 0
+pub merging-none : {rest : List Pair → List Pair → Where} {top : ℕ → ℕ → ℕ} {x y b : List ℕ} {u v : ℕ} → Joinable x y → u ≡ size1 x → v ≡ size2 x → b ≡ u ∷ v ∷ replicate (longest - 2) 0
     → Merging rest top (size1 x) (size2 x) (listed x) (listed y) 0 0 b
 merging-none {x = x} {y = y} k e f g =
     let s = record-is x .0 (k .left-is) in
@@ -121,7 +122,7 @@ merging-none {x = x} {y = y} k e f g =
       form-right = rw (eqb→eq (size1 x) (size1 y) (w .0), eqb→eq (size2 x) (size2 y) (w .1)) (t .form);
       in-left = omega arith;
       in-right = omega arith;
-      collects = collects-none (s .small1) (s .small2) (g ∙ ap₂ (λ m n. m ∷ n ∷ replicate 131 0) e f);
+      collects = collects-none (s .small1) (s .small2) (g ∙ ap₂ (λ m n. m ∷ n ∷ replicate (longest - 2) 0) e f);
     }
 
 -- what `put` left after the pair c

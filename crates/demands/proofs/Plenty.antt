@@ -7,6 +7,7 @@ use native.Mathlib.Omega.{arith}
 use borrow.Author.Tests.{eq-eqb, ne-eqb, le-leb, le-ltb}
 use lib.Dec.{T, leb, ltb, eqb, eqb-refl}
 use lib.ListN.{length, take, replicate, length-replicate}
+use Rattle.limits.specs.Limits.{maxRounds, maxClass}
 use Rattle.laws.specs.Members.{_∈_, here, there}
 use Rattle.laws.specs.Tests.{T-true, T-and, T-not}
 use Rattle.answer.specs.Outcome.{Outcome, success, outcome, fillTests, fillAnswer, fillOut}
@@ -143,19 +144,19 @@ plan-made (parallel p q) n1 n2 s h =
 abbrev blank : ℕ → ℕ → List ℕ
 blank n1 n2 = replicate (words n1 n2) 0
 
-new-answer : (n1 n2 : ℕ) → n1 ≤ 64 → n2 ≤ 64 → newAnswer n1 n2 (length (blank n1 n2)) ≡ success (0 ∷ [])
+new-answer : (n1 n2 : ℕ) → n1 ≤ maxClass → n2 ≤ maxClass → newAnswer n1 n2 (length (blank n1 n2)) ≡ success (0 ∷ [])
 new-answer n1 n2 h k =
-    go (ltb 64 n1) (ltb 64 n2) (ltb (length (blank n1 n2)) (words n1 n2)) (le-ltb 64 n1 h) (le-ltb 64 n2 k)
+    go (ltb maxClass n1) (ltb maxClass n2) (ltb (length (blank n1 n2)) (words n1 n2)) (le-ltb maxClass n1 h) (le-ltb maxClass n2 k)
     (le-ltb (length (blank n1 n2)) (words n1 n2) (omega (arith, length-replicate {A = ℕ} (words n1 n2) 0)))
   where
     go : (a b c : Bool) → a ≡ false → b ≡ false → c ≡ false → outcome ((6, a || b) ∷ (21, c) ∷ []) (0 ∷ []) ≡ success (0 ∷ [])
     go a b c ha hb hc = rw (ha, hb, hc)
 
-module _ (x : List ℕ) {s t : List ℕ} {n1 n2 : ℕ} {rs : List (List ℕ)} (is : isRecord x ≡ true) (one : recordSize1 x ≡ n1) (two : recordSize2 x ≡ n2) (w : Tallies s t n1 n2 rs) (few : length rs < 100000) where
+module _ (x : List ℕ) {s t : List ℕ} {n1 n2 : ℕ} {rs : List (List ℕ)} (is : isRecord x ≡ true) (one : recordSize1 x ≡ n1) (two : recordSize2 x ≡ n2) (w : Tallies s t n1 n2 rs) (few : length rs < maxRounds) where
   has-room : noRoom t ≡ false
   has-room =
-      go (ltb (length t) head) (leb (size1 t) 64) (leb (size2 t) 64) (ltb (length t) (words (size1 t) (size2 t))) (le-ltb (length t) head (omega (arith, fit)))
-      (le-leb (size1 t) 64 (w .sound .small1)) (le-leb (size2 t) 64 (w .sound .small2)) (le-ltb (length t) (words (size1 t) (size2 t)) fit)
+      go (ltb (length t) head) (leb (size1 t) maxClass) (leb (size2 t) maxClass) (ltb (length t) (words (size1 t) (size2 t))) (le-ltb (length t) head (omega (arith, fit)))
+      (le-leb (size1 t) maxClass (w .sound .small1)) (le-leb (size2 t) maxClass (w .sound .small2)) (le-ltb (length t) (words (size1 t) (size2 t)) fit)
     where
       fit : words (size1 t) (size2 t) ≤ length t
       fit = rw (w .one, w .two, w .long) (w .room)
@@ -165,8 +166,8 @@ module _ (x : List ℕ) {s t : List ℕ} {n1 n2 : ℕ} {rs : List (List ℕ)} (i
 
   add-answer : addAnswer x t ≡ success (0 ∷ [])
   add-answer =
-      go (isRecord x) (noRoom t) (isSound t) (eqb (recordSize1 x) (size1 t)) (eqb (recordSize2 x) (size2 t)) (eqb (rounds t) 100000) is has-room (sound-is t .1 (w .sound))
-      (eq-eqb (recordSize1 x) (size1 t) (one ∙ sym (w .one))) (eq-eqb (recordSize2 x) (size2 t) (two ∙ sym (w .two))) (ne-eqb (rounds t) 100000 (λ e. absurd (omega (arith, e, w .many, few))))
+      go (isRecord x) (noRoom t) (isSound t) (eqb (recordSize1 x) (size1 t)) (eqb (recordSize2 x) (size2 t)) (eqb (rounds t) maxRounds) is has-room (sound-is t .1 (w .sound))
+      (eq-eqb (recordSize1 x) (size1 t) (one ∙ sym (w .one))) (eq-eqb (recordSize2 x) (size2 t) (two ∙ sym (w .two))) (ne-eqb (rounds t) maxRounds (λ e. absurd (omega (arith, e, w .many, few))))
     where
       go : (a b c d e f : Bool) → a ≡ true → b ≡ false → c ≡ true → d ≡ true → e ≡ true → f ≡ false
           → outcome ((12, not a) ∷ (21, b) ∷ (22, not c) ∷ (23, not (d && e)) ∷ (24, f) ∷ []) (0 ∷ []) ≡ success (0 ∷ [])
@@ -175,7 +176,7 @@ module _ (x : List ℕ) {s t : List ℕ} {n1 n2 : ℕ} {rs : List (List ℕ)} (i
 abbrev Good : ℕ → ℕ → List ℕ × ℕ → Type 0
 Good n1 n2 q = None (roundTests (q .0) (q .1)) × (studySize1 (studyOf (q .0)) ≡ n1) × (studySize2 (studyOf (q .0)) ≡ n2)
 
-pub tally-made : (n1 n2 : ℕ) (qs : List (List ℕ × ℕ)) → n1 ≤ 64 → n2 ≤ 64 → length qs ≤ 100000 → ((q : List ℕ × ℕ) → q ∈ qs → Good n1 n2 q)
+pub tally-made : (n1 n2 : ℕ) (qs : List (List ℕ × ℕ)) → n1 ≤ maxClass → n2 ≤ maxClass → length qs ≤ maxRounds → ((q : List ℕ × ℕ) → q ∈ qs → Good n1 n2 q)
     → (xs : List (List ℕ)) × (t : List ℕ) × Tallied n1 n2 xs t × AllSearched qs xs
 tally-made n1 n2 [] a b c h = ([], newOut n1 n2 (blank n1 n2), begun-by n1 n2 (blank n1 n2) (new-answer n1 n2 a b), tt)
 tally-made n1 n2 (q ∷ qs) a b c h =
@@ -184,6 +185,6 @@ tally-made n1 n2 (q ∷ qs) a b c h =
     let x = searchBytes (q .0) (q .1) in
     let s : Searched (q .0) (q .1) x = round-made (q .0) (q .1) (g .0) in
     let d = run n1 n2 (k .0) (k .1) (k .2) in
-    let few : length (d .records) < 100000 = omega (arith, d .many, as-many qs (k .0) (k .3)) in
+    let few : length (d .records) < maxRounds = omega (arith, d .many, as-many qs (k .0) (k .3)) in
     let o = add-answer x (T-true (isRecord x) .0 (sound (searched (q .0) (q .1)) x s .is)) (g .1) (g .2) (d .tallies) few in
     (x ∷ k .0, addOut x (k .1), (k .1, k .2, added-by x (k .1) o), (s, k .3))

@@ -6,6 +6,7 @@ use mathlib.Core.List.{List, [], _∷_}
 use Prim.Native.Nat.{ℕ, _+_, _*_, _/_, _≤_, _<_}
 use lib.Dec.{T}
 use lib.ListN.{length, take}
+use Rattle.limits.specs.Limits.{arcCount}
 use Rattle.laws.specs.Members.{_∈_}
 use Rattle.answer.specs.Outcome.{success, refused}
 use Rattle.record.specs.Record.{isRecord, recordHolds}
@@ -79,7 +80,7 @@ module _ (g : Given) (f : List ℕ) (w : Wrote g f) where
   back = subst (ReadsBack g) (sym file-is) (write-reads-back g (call.writeLent (w .made)) (w .handed .size ∷ []) written-answer)
 
   opens : (c : call.OpenCall) → call.openFile c ≡ f → call.openResult c
-      ≡ success (length (g .nodes) ∷ (length (g .arcs) / 2) ∷ g .total ∷ g .source ∷ g .target ∷ count 1 (g .nodes) ∷ count 2 (g .nodes) ∷ [])
+      ≡ success (length (g .nodes) ∷ arcCount (g .arcs) ∷ g .total ∷ g .source ∷ g .target ∷ count 1 (g .nodes) ∷ count 2 (g .nodes) ∷ [])
   opens c e = c .kept ∙ ap openAnswer e ∙ back .opens
 
   checks : (c : call.CheckCall) → call.checkFile c ≡ f

@@ -10,6 +10,7 @@ use Prim.Native.Nat.{ℕ, _+_, _-_, _*_, _/_, _≤_, _<_, min}
 use lib.Dec.{T, ltb}
 use lib.ListN.{length}
 use denote.Slice.{sliceVal}
+use Rattle.limits.specs.Limits.{arcCount, maxRounds, maxClass}
 use Rattle.laws.specs.Members.{_∈_}
 use Rattle.answer.specs.Outcome.{success, refused}
 use Rattle.front.specs.declared.Pair.{Pair}
@@ -171,7 +172,7 @@ pub record Demand2 : Type 0 where
   pub counts : (n1 n2 : ℕ) (qs : List (List ℕ × ℕ)) (xs : List (List ℕ)) (t : List ℕ) → Tallied n1 n2 xs t → AllSearched qs xs
       → (l1 l2 : ℕ) → l1 ≤ n1 → l2 ≤ n2 → Count (HoldsWith n1 n2 l1 l2) qs (cell t l1 l2)
   -- there is such a tally of every list of up to 100,000 rounds of studies of one pair of class sizes to which no number from 1 to 11 applies
-  pub tallied : (n1 n2 : ℕ) (qs : List (List ℕ × ℕ)) → n1 ≤ 64 → n2 ≤ 64 → length qs ≤ 100000
+  pub tallied : (n1 n2 : ℕ) (qs : List (List ℕ × ℕ)) → n1 ≤ maxClass → n2 ≤ maxClass → length qs ≤ maxRounds
       → ((q : List ℕ × ℕ) → q ∈ qs → None (roundTests (q .0) (q .1)) × (studySize1 (studyOf (q .0)) ≡ n1) × (studySize2 (studyOf (q .0)) ≡ n2))
       → (xs : List (List ℕ)) × (t : List ℕ) × Tallied n1 n2 xs t × AllSearched qs xs
   -- "The reliability, a whole count of ten-millionths, is never above the exact survival signature formula on that tally": with E = `sumE` and
@@ -189,7 +190,7 @@ pub record Demand2 : Type 0 where
   -- "A written study reads back as given." It spells the study that was meant; opening tells its numbers,
   pub spells : (g : Given) (f : List ℕ) → Wrote g f → studyOf f ≡ meant g
   pub opens : (g : Given) (f : List ℕ) → Wrote g f → (c : call.OpenCall) → call.openFile c ≡ f → call.openResult c
-      ≡ success (length (g .nodes) ∷ (length (g .arcs) / 2) ∷ g .total ∷ g .source ∷ g .target ∷ count 1 (g .nodes) ∷ count 2 (g .nodes) ∷ [])
+      ≡ success (length (g .nodes) ∷ arcCount (g .arcs) ∷ g .total ∷ g .source ∷ g .target ∷ count 1 (g .nodes) ∷ count 2 (g .nodes) ∷ [])
   -- lookup hands back each round, and refuses every other,
   pub checks : (g : Given) (f : List ℕ) → Wrote g f → (c : call.CheckCall) → call.checkFile c ≡ f
       → (call.checkRound c < g .total → call.checkResult c ≡ success (0 ∷ [])) × (g .total ≤ call.checkRound c → call.checkResult c ≡ refused 10)

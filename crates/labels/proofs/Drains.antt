@@ -6,6 +6,7 @@ use Prim.Native.Nat.{ℕ, zero, suc, _+_, _-_, _*_, _/_, _≤_, _<_}
 use native.Mathlib.Omega.{arith}
 use lib.ListN.{length, getD, set, length-set}
 use lib.Seq.{getD-set-same, getD-set-other}
+use Rattle.limits.specs.Limits.{arcSize, arcCount, maxPosition}
 use Rattle.laws.specs.Tests.{order, equal}
 use Rattle.relax.specs.Labels.{Held, held-lower, held-t, pair-first}
 use Rattle.relax.specs.State.{Graph, Chains, to, net, low, Quiet, Ripe, Why, quiet, piled, waits, left, Named, Work, Kept, Next, Still, Room, Lengths, start}
@@ -15,8 +16,8 @@ use Rattle.relax.proofs.Spreads.{low-less}
 module _ {f : Graph} {a l : ℕ} {d stack wait : List ℕ} {top v i : ℕ} (w : Work f a l d stack wait top v i) where
   refit : (stack′ : List ℕ) (top′ v′ i′ : ℕ) → top′ + low l d ≤ length d
       → ((k : ℕ) → k < top′ → Ripe f a l d (getD stack′ k 0))
-      → (0 < i′ → Ripe f a l d v′ × (i′ ≤ length (f .arcs) / 2) × (to (f .arcs) (i′ - 1) ≡ v′))
-      → ((j : ℕ) → j < length (f .arcs) / 2 → Why f l d stack wait top v i j → Why f l d stack′ wait top′ v′ i′ j)
+      → (0 < i′ → Ripe f a l d v′ × (i′ ≤ arcCount (f .arcs)) × (to (f .arcs) (i′ - 1) ≡ v′))
+      → ((j : ℕ) → j < arcCount (f .arcs) → Why f l d stack wait top v i j → Why f l d stack′ wait top′ v′ i′ j)
       → Work f a l d stack′ wait top′ v′ i′
   refit stack′ top′ v′ i′ fits pile going go =
       record {
@@ -44,14 +45,14 @@ begin {f} {a} {l} {d} {wait} {v} stack h w = refit w (set stack 0 v) 1 0 0 (w .f
     same zero b = sym (getD-set-same stack 0 v 0 h)
     same (suc k) b = absurd (omega arith)
 
-    go : (j : ℕ) → j < length (f .arcs) / 2 → Why f l d (v ∷ []) wait 1 0 0 j → Why f l d (set stack 0 v) wait 1 0 0 j
+    go : (j : ℕ) → j < arcCount (f .arcs) → Why f l d (v ∷ []) wait 1 0 0 j → Why f l d (set stack 0 v) wait 1 0 0 j
     go j n (quiet x) = quiet x
     go j n (piled k h e) = piled k h (sym (same k h) ∙ e)
     go j n (waits x) = waits x
     go j n (left e h) = left e h
 
 -- a node is popped, and its chain begins
-pub pop : {f : Graph} {first more : List ℕ} → Chains (f .arcs) first more (length (f .arcs) / 2) → {a l : ℕ} {d stack wait : List ℕ} {top : ℕ} → Work f a l d stack wait top 0 0
+pub pop : {f : Graph} {first more : List ℕ} → Chains (f .arcs) first more (arcCount (f .arcs)) → {a l : ℕ} {d stack wait : List ℕ} {top : ℕ} → Work f a l d stack wait top 0 0
     → (k : ℕ) → top ≡ suc k → (u : ℕ) → u ≡ getD stack k 0 → (u < length (f .entry)) × Work f a l d stack wait k u (getD first u 0)
 pop {f} {first} {more} ch {a} {l} {d} {stack} {wait} {top} w k is u is-u =
     (ripe .node, refit w stack k u (getD first u 0) (omega (arith, w .fits)) (λ n h. w .pile n (omega arith)) (λ h. let r = ch .head-is u (getD first u 0 - 1) (omega arith) in (ripe, omega arith, r .1)) go)
@@ -59,7 +60,7 @@ pop {f} {first} {more} ch {a} {l} {d} {stack} {wait} {top} w k is u is-u =
     ripe : Ripe f a l d u
     ripe = rw is-u (w .pile k (omega arith))
 
-    go : (j : ℕ) → j < length (f .arcs) / 2 → Why f l d stack wait top 0 0 j → Why f l d stack wait k u (getD first u 0) j
+    go : (j : ℕ) → j < arcCount (f .arcs) → Why f l d stack wait top 0 0 j → Why f l d stack wait k u (getD first u 0) j
     go j h (quiet x) = quiet x
     go j h (piled n b e) =
         ⊎-elim (λ le. let q : n ≡ k = omega arith in let r : to (f .arcs) j ≡ u = sym e ∙ ap (λ m. getD stack m 0) q ∙ sym is-u in left r (subst (λ x. j < getD first x 0) r (ch .head j h))) (λ lt. piled n lt e) (order k n)
@@ -70,7 +71,7 @@ pop {f} {first} {more} ch {a} {l} {d} {stack} {wait} {top} w k is u is-u =
 anew : {f : Graph} {a l : ℕ} {d stack wait : List ℕ} {top v : ℕ} → Work f a l d stack wait top v 0 → Work f a l d stack wait top 0 0
 anew {f} {a} {l} {d} {stack} {wait} {top} {v} w = refit w stack top 0 0 (w .fits) (w .pile) (λ h. absurd (omega arith)) go
   where
-    go : (j : ℕ) → j < length (f .arcs) / 2 → Why f l d stack wait top v 0 j → Why f l d stack wait top 0 0 j
+    go : (j : ℕ) → j < arcCount (f .arcs) → Why f l d stack wait top v 0 j → Why f l d stack wait top 0 0 j
     go j h (quiet x) = quiet x
     go j h (piled n b e) = piled n b e
     go j h (waits x) = waits x
@@ -80,7 +81,7 @@ anew {f} {a} {l} {d} {stack} {wait} {top} {v} w = refit w stack top 0 0 (w .fits
 pub rest : {f : Graph} {a l : ℕ} {d stack wait : List ℕ} {top : ℕ} → Work f a l d stack wait top 0 0 → (0 < top → l ≤ getD d (f .source) 0) → Work f a l d [] wait 0 0 0
 rest {f} {a} {l} {d} {stack} {wait} {top} w enough = refit w [] 0 0 0 (omega (arith, w .fits)) (λ k h. absurd (omega arith)) (λ h. absurd (omega arith)) go
   where
-    go : (j : ℕ) → j < length (f .arcs) / 2 → Why f l d stack wait top 0 0 j → Why f l d [] wait 0 0 0 j
+    go : (j : ℕ) → j < arcCount (f .arcs) → Why f l d stack wait top 0 0 j → Why f l d [] wait 0 0 0 j
     go j h (quiet x) = quiet x
     go j h (piled n b e) = quiet (omega (arith, enough (omega arith), w .pile n b .at, ap (λ x. getD d x 0) e))
     go j h (waits x) = waits x
@@ -92,7 +93,7 @@ pub record Draining (f : Graph) (first more : List ℕ) (a l : ℕ) (d₀ stack�
   -- as long as at the start
   pub lengths : Lengths d₀ stack₀ wait₀ d stack wait
   -- the chains
-  pub chains : Chains (f .arcs) first more (length (f .arcs) / 2)
+  pub chains : Chains (f .arcs) first more (arcCount (f .arcs))
   -- room for them and on the stack
   pub room : Room (f .arcs) (f .entry) first more d stack
 
@@ -113,7 +114,7 @@ pub record Seeking (wait : List ℕ) (l m : ℕ) : Type 0 where
   -- no level waits in between
   pub none : (c : ℕ) → m < c → c < l → getD wait c 0 ≡ 0
   -- every level has a mark
-  pub long : 66 ≤ length wait
+  pub long : maxPosition + 1 ≤ length wait
 
 pub sought : {wait : List ℕ} {l m : ℕ} → Seeking wait l m → (floor : ℕ) → floor < m → (getD wait m 0 ≡ 0 → ⊥) → Next wait l floor m
 sought s floor h n = record { none = λ c b k. s .none c (omega arith) k; found = λ _. (h, s .low, n) }
@@ -186,7 +187,7 @@ module _ {f : Graph} {a l : ℕ} {d wait : List ℕ} (w : Work f a l d [] wait 0
         pile zero b = record { node = named .node; at = named .label; in-it = omega (arith, w .early, w .laid .apart y (named .node) (omega (arith, named .full, named .below))) }
         pile (suc k) b = absurd (omega arith)
 
-        go : (j : ℕ) → j < length (f .arcs) / 2 → Why f l d [] wait 0 0 0 j → Why f m d (y ∷ []) (set wait m 0) 1 0 0 j
+        go : (j : ℕ) → j < arcCount (f .arcs) → Why f l d [] wait 0 0 0 j → Why f m d (y ∷ []) (set wait m 0) 1 0 0 j
         go j b (quiet x) = quiet x
         go j b (piled k h e) = absurd (omega arith)
         go j b (left e h) = absurd (omega arith)
@@ -205,7 +206,7 @@ pub record Flooding (f : Graph) (first more : List ℕ) (a : ℕ) (d₀ stack₀
   -- as long as at the start
   pub lengths : Lengths d₀ stack₀ wait₀ d stack wait
   -- the chains
-  pub chains : Chains (f .arcs) first more (length (f .arcs) / 2)
+  pub chains : Chains (f .arcs) first more (arcCount (f .arcs))
   -- room for them and on the stack
   pub room : Room (f .arcs) (f .entry) first more d stack
   -- both ends are in
@@ -276,9 +277,9 @@ module _ {f : Graph} {a : ℕ} {d wait : List ℕ} (s : Still f (suc a) d wait) 
     enters : w < length d
     enters = omega (arith, node, s .long)
 
-    by : (j : ℕ) → j < length (f .arcs) / 2 → a < getD (f .entry) (to (f .arcs) j) 0 → Quiet f d j ⊎ (w ≡ to (f .arcs) j)
+    by : (j : ℕ) → j < arcCount (f .arcs) → a < getD (f .entry) (to (f .arcs) j) 0 → Quiet f d j ⊎ (w ≡ to (f .arcs) j)
     by j b e =
-        ⊎-elim (λ le. inr (alone (to (f .arcs) j) (s .laid .ends (2 * j + 1) (omega arith)) (omega arith))) (λ lt. inl (s .calm j b lt)) (order (getD (f .entry) (to (f .arcs) j) 0) (suc a))
+        ⊎-elim (λ le. inr (alone (to (f .arcs) j) (s .laid .ends (arcSize * j + 1) (omega arith)) (omega arith))) (λ lt. inl (s .calm j b lt)) (order (getD (f .entry) (to (f .arcs) j) 0) (suc a))
 
     -- its label is not above that of s
     pub skipped : getD d w 0 ≤ getD d (f .source) 0 → Still f a d wait

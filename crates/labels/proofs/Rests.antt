@@ -6,6 +6,7 @@ use Prim.Native.Nat.{ℕ, _+_, _≤_, _<_, min, max}
 use native.Mathlib.Omega.{arith}
 use lib.Dec.{T}
 use lib.ListN.{length, getD}
+use Rattle.limits.specs.Limits.{maxNodes, maxPosition}
 use Rattle.laws.specs.Tests.{order}
 use Rattle.front.specs.Front.{holds}
 use Rattle.parts.specs.Study.{Arc}
@@ -27,7 +28,7 @@ at-rest {f} {a} {d} s h =
     })
 
 -- nothing is labelled while an end is shut
-pub at-first : {f : Graph} {a : ℕ} {d wait : List ℕ} → Laid f → start f ≤ a → length d ≡ 160 → 66 ≤ length wait → ((v : ℕ) → getD d v 0 ≡ 0) → ((c : ℕ) → getD wait c 0 ≡ 0) → Still f a d wait
+pub at-first : {f : Graph} {a : ℕ} {d wait : List ℕ} → Laid f → start f ≤ a → length d ≡ maxNodes → maxPosition + 1 ≤ length wait → ((v : ℕ) → getD d v 0 ≡ 0) → ((c : ℕ) → getD wait c 0 ≡ 0) → Still f a d wait
 at-first {f} o b h k z y =
     record {
       laid = o;

@@ -9,18 +9,19 @@ use lib.Dec.{ltb, leb·suc-suc}
 use lib.ListN.{length, getD, take, replicate}
 use lib.Seq.{take-suc, take-length}
 use borrow.Author.Tests.{lt-ltb, le-ltb, ltb-true, ltb-false}
+use Rattle.limits.specs.Limits.{maxRounds, maxClass}
 use Rattle.answer.specs.Outcome.{Outcome, success, refused}
 use Rattle.answer.proofs.Outcomes.{refused-apart}
 use Rattle.study.specs.Calls.{openAnswer}
 use Rattle.study.proofs.Lookups.{open-values, open-fits, open-parts}
 use Rattle.search.specs.Search.{searchBytes}
-use Rattle.soundness.specs.Tally.{head, size2, width, words}
+use Rattle.soundness.specs.Tally.{head, size2, width, words, largest}
 use Rattle.tally.specs.Calls.{newAnswer, addOut}
 use Rattle.tally.specs.Adds.{succeeds, Tallies}
 use Rattle.tally.proofs.News.{new-done}
 use Rattle.tally.proofs.Runs.{new-tallies, add-tallies}
 use Rattle.lines.specs.Text.{sizesLine, countLine, refusedLine}
-use Rattle.lines.specs.Report.{either, row, countLines, tallied, searched, roundLine, roundTally, roundLines, roundsOf, freshFor, openLines, reportOpens, reportLines, joined, reportText, lineAt, firstLines, Due, Next}
+use Rattle.lines.specs.Report.{either, row, countLines, tallied, searched, roundLine, roundTally, roundLines, roundsOf, freshFor, openLines, maxInput, reportOpens, reportLines, joined, reportText, lineAt, firstLines, Due, Next}
 
 -- ---- THE LINES IN THEIR ORDER ARE THE WHOLE TEXT
 joined-append : (a b : List (List ℕ)) → joined (a ++ b) ≡ joined a ++ joined b
@@ -127,7 +128,7 @@ module _ (f v : List ℕ) (o : reportOpens f ≡ success v) where
   M = roundsOf v
 
   opens : openAnswer f ≡ success v
-  opens = go (ltb 65536 (length f)) o
+  opens = go (ltb maxInput (length f)) o
     where
       go : (b : Bool) → cond b (refused 1) (openAnswer f) ≡ success v → openAnswer f ≡ success v
       go true e = absurd (refused-apart 1 v e)
@@ -136,7 +137,7 @@ module _ (f v : List ℕ) (o : reportOpens f ≡ success v) where
   lines-are : reportLines f ≡ openLines f v
   lines-are = ap (λ a. either a (λ n. refusedLine n ∷ []) (openLines f)) o
 
-  pub small : (n1 ≤ 64) × (n2 ≤ 64) × (M ≤ 100000)
+  pub small : (n1 ≤ maxClass) × (n2 ≤ maxClass) × (M ≤ maxRounds)
   small =
       let w = open-values f v opens in
       let p = open-parts f v opens in
@@ -224,17 +225,17 @@ module _ (f v : List ℕ) (o : reportOpens f ≡ success v) where
   count-next i l1 t e d = rw e (count-step l1 t (rw e at d))
 
   -- ---- THE TALLY THROUGHOUT has the study's sizes, in 4,228 words
-  room : words n1 n2 ≤ 4228
+  room : words n1 n2 ≤ largest
   room =
-      let h : n1 + 1 ≤ 65 = omega (arith, small) in
-      let k : width n2 ≤ 65 = omega (arith, small) in
+      let h : n1 + 1 ≤ maxClass + 1 = omega (arith, small) in
+      let k : width n2 ≤ maxClass + 1 = omega (arith, small) in
       omega (arith, mul-le-mul h k)
 
   abbrev blank : List ℕ
-  blank = replicate 4228 0
+  blank = replicate largest 0
 
   begun : newAnswer n1 n2 (length blank) ≡ success (0 ∷ [])
-  begun = sym (new-done n1 n2 blank (rw (le-ltb 64 n1 (small .0), le-ltb 64 n2 (small .1)) refl) room .0)
+  begun = sym (new-done n1 n2 blank (rw (le-ltb maxClass n1 (small .0), le-ltb maxClass n2 (small .1)) refl) room .0)
 
   record Counted (t : List ℕ) : Type 0 where
     pub records : List (List ℕ)
@@ -245,13 +246,13 @@ module _ (f v : List ℕ) (o : reportOpens f ≡ success v) where
   counted (suc r) = record { records = _; is = add-tallies (searchBytes f r) (counted r .is) }
 
   -- the row of l1 is in the slice
-  pub count-fits : (i l1 : ℕ) (t : List ℕ) → i ≡ suc (M + l1) → Due f v i t → (l1 ≤ 64) × (head ≤ length t) × (size2 t ≤ 64) × (head + l1 * width (size2 t) + width (size2 t) ≤ length t)
+  pub count-fits : (i l1 : ℕ) (t : List ℕ) → i ≡ suc (M + l1) → Due f v i t → (l1 ≤ maxClass) × (head ≤ length t) × (size2 t ≤ maxClass) × (head + l1 * width (size2 t) + width (size2 t) ≤ length t)
   count-fits i l1 t q d =
       let a = count-after f fresh n1 M 0 l1 (omega (arith, all-lines, d .line)) in
       let e = before i M t d (min-eq-right (omega arith)) in
       let k = counted M .is in
       let two : size2 t ≡ n2 = ap size2 e ∙ k .two in
-      let long : length t ≡ 4228 = ap length e ∙ k .long in
+      let long : length t ≡ largest = ap length e ∙ k .long in
       let h : l1 ≤ n1 = omega (arith, all-lines, d .line, a .all) in
       let s : suc l1 ≤ n1 + 1 = omega arith in
       let g : l1 * width (size2 t) + width (size2 t) ≤ (n1 + 1) * width n2 = omega (arith, suc-mul l1 (width n2), mul-le-mul-right (width n2) s, ap (λ x. l1 * width x) two, two) in

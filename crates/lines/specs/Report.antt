@@ -8,7 +8,8 @@ use lib.ListN.{length, getD, take, drop, replicate}
 use Rattle.answer.specs.Outcome.{Outcome, success, refused}
 use Rattle.study.specs.Calls.{openAnswer}
 use Rattle.search.specs.Search.{searchBytes, searchAnswer}
-use Rattle.soundness.specs.Tally.{head, size2, width}
+use Rattle.buffer.specs.Buffer.{longest}
+use Rattle.soundness.specs.Tally.{head, size2, width, largest}
 use Rattle.tally.specs.Calls.{newOut, addOut}
 use Rattle.lines.specs.Text.{sizesLine, frontLine, countLine, refusedLine}
 
@@ -31,9 +32,9 @@ abbrev pub tallied : List ℕ → List ℕ → ℕ → List ℕ
 tallied f t zero = t
 tallied f t (suc r) = addOut (searchBytes f r) (tallied f t r)
 
--- the search of round r; 133 bytes hold any record
+-- the search of round r, with room for any record
 abbrev pub searched : List ℕ → ℕ → Outcome
-searched f r = searchAnswer f r 133
+searched f r = searchAnswer f r longest
 
 -- the line of round r, and the tally after it
 abbrev pub roundLine : List ℕ → ℕ → List ℕ
@@ -51,17 +52,21 @@ roundLines f t n1 (suc k) r = roundLine f r ∷ either (searched f r) (λ n. [])
 abbrev pub roundsOf : List ℕ → ℕ
 roundsOf v = getD v 2 0
 
--- a new tally; 4,228 words hold any
+-- a new tally, in as many words as any has
 abbrev pub freshFor : List ℕ → List ℕ
-freshFor v = newOut (getD v 5 0) (getD v 6 0) (replicate 4228 0)
+freshFor v = newOut (getD v 5 0) (getD v 6 0) (replicate largest 0)
 
 -- the lines of an open study
 abbrev pub openLines : List ℕ → List ℕ → List (List ℕ)
 openLines f v = sizesLine (getD v 5 0) (getD v 6 0) (roundsOf v) ∷ roundLines f (freshFor v) (getD v 5 0) (roundsOf v) 0
 
--- what opening answers; number 1 above 65,536 bytes too
+-- the most bytes that the report reads
+abbrev pub maxInput : ℕ
+maxInput = 65536
+
+-- what opening answers; number 1 above these bytes too
 abbrev pub reportOpens : List ℕ → Outcome
-reportOpens f = cond (ltb 65536 (length f)) (refused 1) (openAnswer f)
+reportOpens f = cond (ltb maxInput (length f)) (refused 1) (openAnswer f)
 
 -- THE REPORT, line by line and whole
 abbrev pub reportLines : List ℕ → List (List ℕ)

@@ -9,6 +9,7 @@ use borrow.Author.Tests.{ltb-false, leb-false, eqb-true, eqb-false, not-false}
 use lib.Dec.{eqb, leb, ltb}
 use lib.ListN.{length, getD, take, drop, length-take, length-drop}
 use lib.Seq.{drop-drop}
+use Rattle.limits.specs.Limits.{minNodes, maxNodes, maxArcs, arcCount, maxRounds, maxClass}
 use Rattle.laws.specs.Members.{_∈_, here, there, any, any-in}
 use Rattle.laws.specs.Tests.{T-true, or-none}
 use Rattle.orders.specs.Order.{count}
@@ -17,12 +18,12 @@ use Rattle.parts.specs.Study.{Arc, arcsFrom, pieces, roundSize, studyFro
 use Rattle.parts.specs.Tests.{badCounts, badEnds, badClasses, badSizes, badEndClasses, badArc, badArcs, partTests}
 
 -- ---- one test each
-pub counts-fit : (N A M : ℕ) → badCounts N A M ≡ false → (2 ≤ N) × (N ≤ 160) × (A ≤ 1024) × (M ≤ 100000)
+pub counts-fit : (N A M : ℕ) → badCounts N A M ≡ false → (minNodes ≤ N) × (N ≤ maxNodes) × (A ≤ maxArcs) × (M ≤ maxRounds)
 counts-fit N A M e =
-    let x = or-none (ltb N 2 || ltb 160 N || ltb 1024 A) (ltb 100000 M) e in
-    let y = or-none (ltb N 2 || ltb 160 N) (ltb 1024 A) (x .0) in
-    let z = or-none (ltb N 2) (ltb 160 N) (y .0) in
-    (ltb-false N 2 (z .0), ltb-false 160 N (z .1), ltb-false 1024 A (y .1), ltb-false 100000 M (x .1))
+    let x = or-none (ltb N minNodes || ltb maxNodes N || ltb maxArcs A) (ltb maxRounds M) e in
+    let y = or-none (ltb N minNodes || ltb maxNodes N) (ltb maxArcs A) (x .0) in
+    let z = or-none (ltb N minNodes) (ltb maxNodes N) (y .0) in
+    (ltb-false N minNodes (z .0), ltb-false maxNodes N (z .1), ltb-false maxArcs A (y .1), ltb-false maxRounds M (x .1))
 
 pub ends-fit : (N s t : ℕ) → badEnds N s t ≡ false → (s < N) × (t < N) × (s ≡ t → ⊥)
 ends-fit N s t e =
@@ -30,10 +31,10 @@ ends-fit N s t e =
     let y = or-none (leb N s) (leb N t) (x .0) in
     (leb-false N s (y .0), leb-false N t (y .1), eqb-false s t (x .1))
 
-sizes-fit : (nodes : List ℕ) → badSizes nodes ≡ false → (count 1 nodes ≤ 64) × (count 2 nodes ≤ 64)
+sizes-fit : (nodes : List ℕ) → badSizes nodes ≡ false → (count 1 nodes ≤ maxClass) × (count 2 nodes ≤ maxClass)
 sizes-fit nodes e =
-    let x = or-none (ltb 64 (count 1 nodes)) (ltb 64 (count 2 nodes)) e in
-    (ltb-false 64 (count 1 nodes) (x .0), ltb-false 64 (count 2 nodes) (x .1))
+    let x = or-none (ltb maxClass (count 1 nodes)) (ltb maxClass (count 2 nodes)) e in
+    (ltb-false maxClass (count 1 nodes) (x .0), ltb-false maxClass (count 2 nodes) (x .1))
 
 end-classes-fit : (nodes : List ℕ) (s t : ℕ) → badEndClasses nodes s t ≡ false → (getD nodes s 0 ≡ 0) × (getD nodes t 0 ≡ 0)
 end-classes-fit nodes s t e =
@@ -54,7 +55,7 @@ arc-fits N a e = ends-fit N (a .from) (a .to) e
 -- what tests 5 to 8 leave
 pub record PartsFit (N : ℕ) (nodes arcs : List ℕ) (s t : ℕ) : Type 0 where
   pub classes : badClasses nodes ≡ false
-  pub sizes : (count 1 nodes ≤ 64) × (count 2 nodes ≤ 64)
+  pub sizes : (count 1 nodes ≤ maxClass) × (count 2 nodes ≤ maxClass)
   pub ends : (getD nodes s 0 ≡ 0) × (getD nodes t 0 ≡ 0)
   pub arc : badArcs N arcs ≡ false
 
@@ -68,7 +69,7 @@ parts-fit N nodes arcs s t test =
     }
 
 -- ---- lengths
-arcs-length : (i : ℕ) (b : List ℕ) → length (arcsFrom i b) ≡ length b / 2
+arcs-length : (i : ℕ) (b : List ℕ) → length (arcsFrom i b) ≡ arcCount b
 arcs-length i [] = refl
 arcs-length i (x ∷ []) = refl
 arcs-length i (x ∷ y ∷ b) = omega (arith, arcs-length (suc i) b)
@@ -91,15 +92,15 @@ piece-at (suc m) n b (suc r) h =
     piece-at m n (drop n b) r (omega arith) ∙ ap (take n) (drop-drop (r * n) n b ∙ ap (λ k. drop k b) e)
 
 -- the product of test 9 is small
-pub product-small : (m n k : ℕ) → m ≤ 100000 → n ≤ k → k ≤ 320 → m * n ≤ 32000000
+pub product-small : (m n k : ℕ) → m ≤ maxRounds → n ≤ k → k ≤ 2 * maxNodes → m * n ≤ 32000000
 product-small m n k a b c = omega (arith, mul-le-mul a (le-trans b c))
 
 -- THE LIMITS: where tests 2, 3 and 5 to 8 are false and the rounds' bytes suffice
 pub parts-within : (nodes arcs rounds : List ℕ) (s t M : ℕ)
-    → badCounts (length nodes) (length arcs / 2) M ≡ false → badEnds (length nodes) s t ≡ false → PartsFit (length nodes) nodes arcs s t → M * roundSize nodes ≤ length rounds
+    → badCounts (length nodes) (arcCount arcs) M ≡ false → badEnds (length nodes) s t ≡ false → PartsFit (length nodes) nodes arcs s t → M * roundSize nodes ≤ length rounds
     → WithinLimits (studyFrom nodes arcs rounds s t M)
 parts-within nodes arcs rounds s t M two three p nine =
-    let c = counts-fit (length nodes) (length arcs / 2) M two in
+    let c = counts-fit (length nodes) (arcCount arcs) M two in
     let e = ends-fit (length nodes) s t three in
     record {
       nodes-least = c .0;

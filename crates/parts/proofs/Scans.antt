@@ -7,6 +7,7 @@ use native.Mathlib.Numerals.{add-one}
 use native.Mathlib.Omega.{arith}
 use lib.ListN.{length, getD, drop, length-drop}
 use lib.Seq.{drop-cons, drop-length}
+use Rattle.limits.specs.Limits.{arcSize}
 use Rattle.laws.specs.Members.{any}
 use Rattle.laws.specs.Parts.{drop-two}
 use Rattle.parts.specs.Study.{Arc, arcsFrom}
@@ -25,17 +26,17 @@ any-end f b l i e = rw (e, drop-length l, or-false b)
 
 -- arc bytes
 abbrev pub anyArc : (Arc → Bool) → List ℕ → ℕ → Bool
-anyArc f l i = any f (arcsFrom i (drop (2 * i) l))
+anyArc f l i = any f (arcsFrom i (drop (arcSize * i) l))
 
-pub arc-next : (f : Arc → Bool) (b : Bool) (l : List ℕ) (i : ℕ) → 2 * i + 1 < length l
-    → (b || anyArc f l i) ≡ (b || f (record { from = getD l (2 * i) 0; to = getD l (2 * i + 1) 0; place = i }) || anyArc f l (i + 1))
+pub arc-next : (f : Arc → Bool) (b : Bool) (l : List ℕ) (i : ℕ) → arcSize * i + 1 < length l
+    → (b || anyArc f l i) ≡ (b || f (record { from = getD l (arcSize * i) 0; to = getD l (arcSize * i + 1) 0; place = i }) || anyArc f l (i + 1))
 arc-next f b l i h =
-    let e : 2 * i + 2 ≡ 2 * (i + 1) = omega arith in
-    let a : Arc = record { from = getD l (2 * i) 0; to = getD l (2 * i + 1) 0; place = i } in
-    ap (λ m. b || any f (arcsFrom i m)) (drop-two l (2 * i) 0 h) ∙ more f b a (arcsFrom (suc i) (drop (2 * i + 2) l)) ∙ rw (e, ← add-one i)
+    let e : arcSize * i + 2 ≡ arcSize * (i + 1) = omega arith in
+    let a : Arc = record { from = getD l (arcSize * i) 0; to = getD l (arcSize * i + 1) 0; place = i } in
+    ap (λ m. b || any f (arcsFrom i m)) (drop-two l (arcSize * i) 0 h) ∙ more f b a (arcsFrom (suc i) (drop (arcSize * i + 2) l)) ∙ rw (e, ← add-one i)
 
-pub arc-end : (f : Arc → Bool) (b : Bool) (l : List ℕ) (i : ℕ) → length l ≤ 2 * i + 1 → (b || anyArc f l i) ≡ b
-arc-end f b l i h = rw (few i (drop (2 * i) l) (omega (arith, length-drop (2 * i) l)), or-false b)
+pub arc-end : (f : Arc → Bool) (b : Bool) (l : List ℕ) (i : ℕ) → length l ≤ arcSize * i + 1 → (b || anyArc f l i) ≡ b
+arc-end f b l i h = rw (few i (drop (arcSize * i) l) (omega (arith, length-drop (arcSize * i) l)), or-false b)
   where
     few : (j : ℕ) (m : List ℕ) → length m ≤ 1 → arcsFrom j m ≡ []
     few j [] k = refl

@@ -3,6 +3,7 @@ use mathlib.Core.Path.{_≡_}
 use mathlib.Core.List.{List, [], _∷_}
 use Prim.Native.Nat.{ℕ, zero, suc, _+_, _≤_, _<_}
 use lib.ListN.{length, getD, take, drop}
+use Rattle.limits.specs.Limits.{minNodes, maxNodes, maxArcs, maxRounds, maxClass}
 use Rattle.laws.specs.Members.{_∈_}
 use Rattle.orders.specs.Order.{count}
 
@@ -44,12 +45,12 @@ studyFrom nodes arcs rounds s t m = record { classes = nodes; arcs = arcsFrom 0 
 -- ---- what every study of a good file is
 pub record WithinLimits (st : Study) : Type 0 where
   -- N 2 to 160, A 0 to 1,024, M 0 to 100,000, n1 and n2 0 to 64
-  pub nodes-least : 2 ≤ length (st .classes)
-  pub nodes-most : length (st .classes) ≤ 160
-  pub arcs-most : length (st .arcs) ≤ 1024
-  pub rounds-most : length (st .rounds) ≤ 100000
-  pub size1-most : count 1 (st .classes) ≤ 64
-  pub size2-most : count 2 (st .classes) ≤ 64
+  pub nodes-least : minNodes ≤ length (st .classes)
+  pub nodes-most : length (st .classes) ≤ maxNodes
+  pub arcs-most : length (st .arcs) ≤ maxArcs
+  pub rounds-most : length (st .rounds) ≤ maxRounds
+  pub size1-most : count 1 (st .classes) ≤ maxClass
+  pub size2-most : count 2 (st .classes) ≤ maxClass
   -- a class is 0, 1 or 2
   pub classes-most : (c : ℕ) → c ∈ st .classes → c ≤ 2
   -- source and target are two nodes of class 0

@@ -4,13 +4,14 @@ use mathlib.Core.List.{List, [], _∷_}
 use Prim.Native.Nat.{ℕ}
 use lib.Dec.{eqb, leb, ltb}
 use lib.ListN.{getD}
+use Rattle.limits.specs.Limits.{minNodes, maxNodes, maxArcs, maxRounds, maxClass}
 use Rattle.laws.specs.Members.{any}
 use Rattle.orders.specs.Order.{count}
 use Rattle.parts.specs.Study.{Arc, arcsFrom}
 
 -- 2 N, A or M out of limits
 abbrev pub badCounts : ℕ → ℕ → ℕ → Bool
-badCounts N A M = ltb N 2 || ltb 160 N || ltb 1024 A || ltb 100000 M
+badCounts N A M = ltb N minNodes || ltb maxNodes N || ltb maxArcs A || ltb maxRounds M
 
 -- 3 s or t not below N, or s = t
 abbrev pub badEnds : ℕ → ℕ → ℕ → Bool
@@ -22,7 +23,7 @@ badClasses nodes = any (ltb 2) nodes
 
 -- 6 a class size above 64
 abbrev pub badSizes : List ℕ → Bool
-badSizes nodes = ltb 64 (count 1 nodes) || ltb 64 (count 2 nodes)
+badSizes nodes = ltb maxClass (count 1 nodes) || ltb maxClass (count 2 nodes)
 
 -- 7 s or t not class 0
 abbrev pub badEndClasses : List ℕ → ℕ → ℕ → Bool

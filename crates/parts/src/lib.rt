@@ -1,11 +1,18 @@
 // The tests of a study's parts that opening and writer share: numbers 2, 3 and 5 to 8.
 use answer::Done;
 use answer::Refusal;
+use limits::ARC;
+use limits::MAX_ARCS;
+use limits::MAX_CLASS;
+use limits::MAX_NODES;
+use limits::MAX_ROUNDS;
+use limits::MIN_NODES;
 use slices::byte;
 ghost use mathlib.Core.Path.{_≡_};
 ghost use mathlib.Core.List.{[], _∷_};
 ghost use Prim.Native.Nat.{_≤_};
 ghost use lib.ListN.{length};
+ghost use Rattle.limits.specs.Limits.{maxNodes};
 ghost use Rattle.answer.specs.Outcome.{done, outcome};
 ghost use Rattle.orders.specs.Order.{count};
 ghost use Rattle.parts.specs.Tests.{badCounts, badEnds, badClasses, badArcs, partTests};
@@ -14,7 +21,7 @@ ghost use Rattle.parts.specs.Tests.{badCounts, badEnds, badClasses, badA
 pub fn bad_counts(nodes: usize, arcs: usize, rounds: usize) -> bool
     ensures { λ r. ⌜ r ≡ badCounts nodes arcs rounds ⌝ }
 {
-    (nodes < 2) | (160 < nodes) | (1024 < arcs) | (100000 < rounds)
+    (nodes < MIN_NODES) | (MAX_NODES < nodes) | (MAX_ARCS < arcs) | (MAX_ROUNDS < rounds)
 }
 
 // Number 3: source and target are two nodes.
@@ -43,9 +50,9 @@ fn bad_arcs(n: u8, arcs: &[u8]) -> bool
 {
     let mut bad = false;
     let mut i = 0;
-    while i < arcs.len() / 2 {
-        let from = arcs[2 * i];
-        let to = arcs[2 * i + 1];
+    while i < arcs.len() / ARC {
+        let from = arcs[ARC * i];
+        let to = arcs[ARC * i + 1];
         bad = bad | ((n <= from) | (n <= to) | (from == to));
         i += 1;
     }
@@ -61,14 +68,14 @@ pub fn test_parts(
     source: usize,
     target: usize,
 ) -> Done
-    requires few { ⌜ length (now nodes) ≤ 160 ⌝ }
+    requires few { ⌜ length (now nodes) ≤ maxNodes ⌝ }
     requires sizes { ⌜ (n1 ≡ count 1 (now nodes)) × (n2 ≡ count 2 (now nodes)) ⌝ }
     ensures { λ r. ⌜ done r ≡ outcome (partTests (length (now (nodes .entry))) (now (nodes .entry)) (now (arcs .entry)) source target) (0 ∷ []) ⌝ }
 {
     if bad_classes(nodes) {
         return Done::Refused(Refusal::NodeClass);
     }
-    if (64 < n1) | (64 < n2) {
+    if (MAX_CLASS < n1) | (MAX_CLASS < n2) {
         return Done::Refused(Refusal::ClassSize);
     }
     if (byte(nodes, source) != 0) | (byte(nodes, target) != 0) {

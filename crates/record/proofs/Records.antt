@@ -8,6 +8,7 @@ use native.Mathlib.Omega.{arith}
 use borrow.Author.Tests.{le-leb, eq-eqb}
 use lib.Dec.{T, leb, ltb, eqb, leb→le, le→leb, ltb→lt, lt→ltb, eqb→eq, eqb-refl}
 use lib.ListN.{length}
+use Rattle.limits.specs.Limits.{maxClass}
 use Rattle.laws.specs.Tests.{T-ext, T-and}
 use Rattle.laws.specs.Members.{here, all, all-are}
 use Rattle.laws.specs.Pairwise.{Pairwise}
@@ -58,8 +59,8 @@ falling-is (p ∷ l) = from-is p l
 
 -- what the test says
 pub record IsRecord (b : List ℕ) : Type 0 where
-  pub small1 : size1 b ≤ 64
-  pub small2 : size2 b ≤ 64
+  pub small1 : size1 b ≤ maxClass
+  pub small2 : size2 b ≤ maxClass
   pub long : length b ≡ 3 + 2 * count b
   pub form : RecordForm (size1 b) (size2 b) (listed b)
 
@@ -69,12 +70,12 @@ record-is b =
     let n2 = size2 b in
     let k = count b in
     let l = listed b in
-    let b1 = leb n1 64 && leb n2 64 in
+    let b1 = leb n1 maxClass && leb n2 maxClass in
     let b2 = eqb (length b) (3 + 2 * k) && leb k (min n1 n2 + 1) in
     let b3 = all (inRange n1 n2) l && falling l in
     let e = T-and (b1 && b2) b3 in
     let f = T-and b1 b2 in
-    let g1 = T-and (leb n1 64) (leb n2 64) in
+    let g1 = T-and (leb n1 maxClass) (leb n2 maxClass) in
     let g2 = T-and (eqb (length b) (3 + 2 * k)) (leb k (min n1 n2 + 1)) in
     let g3 = T-and (all (inRange n1 n2) l) (falling l) in (
       λ t.
@@ -82,8 +83,8 @@ record-is b =
           let i = g1 .0 (h .0) in
           let j = g3 .0 (e .0 t .1) in
           record {
-            small1 = leb→le n1 64 (i .0);
-            small2 = leb→le n2 64 (i .1);
+            small1 = leb→le n1 maxClass (i .0);
+            small2 = leb→le n2 maxClass (i .1);
             long = eqb→eq (length b) (3 + 2 * k) (g2 .0 (h .1) .0);
             form = record {
               within = λ p m. range-is n1 n2 p .0 (all-are (inRange n1 n2) l .0 (j .0) p m);
@@ -93,7 +94,7 @@ record-is b =
       λ r.
           e .1 (
             f .1 (
-              g1 .1 (le→leb n1 64 (r .small1), le→leb n2 64 (r .small2)),
+              g1 .1 (le→leb n1 maxClass (r .small1), le→leb n2 maxClass (r .small2)),
               g2 .1 (
                 subst (λ n. T (eqb (length b) n)) (r .long) (eqb-refl (length b)),
                 le→leb k (min n1 n2 + 1) (omega (arith, form-short n1 n2 l (r .form), listed-length b (r .long))),
@@ -108,15 +109,15 @@ pub record-few : (b : List ℕ) → IsRecord b → count b ≤ min (size1 b) (si
 record-few b r = omega (arith, form-short (size1 b) (size2 b) (listed b) (r .form), listed-length b (r .long))
 
 -- once sizes, length and count are tested, the pairs decide
-pub pairs-decide : (b : List ℕ) → size1 b ≤ 64 → size2 b ≤ 64 → length b ≡ 3 + 2 * count b → count b ≤ min (size1 b) (size2 b) + 1
+pub pairs-decide : (b : List ℕ) → size1 b ≤ maxClass → size2 b ≤ maxClass → length b ≡ 3 + 2 * count b → count b ≤ min (size1 b) (size2 b) + 1
     → (all (inRange (size1 b) (size2 b)) (listed b) && falling (listed b)) ≡ isRecord b
-pairs-decide b h k e f = rw (le-leb (size1 b) 64 h, le-leb (size2 b) 64 k, eq-eqb (length b) (3 + 2 * count b) e, le-leb (count b) (min (size1 b) (size2 b) + 1) f)
+pairs-decide b h k e f = rw (le-leb (size1 b) maxClass h, le-leb (size2 b) maxClass k, eq-eqb (length b) (3 + 2 * count b) e, le-leb (count b) (min (size1 b) (size2 b) + 1) f)
 
 pub not-record : (b : List ℕ) → (IsRecord b → ⊥) → false ≡ isRecord b
 not-record b n = T-ext false (isRecord b) (λ t. absurd t, λ t. n (record-is b .0 t))
 
 -- the record of a list in record form is one
-pub form-is-record : (n1 n2 : ℕ) (l : List Pair) → n1 ≤ 64 → n2 ≤ 64 → RecordForm n1 n2 l → IsRecord (recordBytes n1 n2 l)
+pub form-is-record : (n1 n2 : ℕ) (l : List Pair) → n1 ≤ maxClass → n2 ≤ maxClass → RecordForm n1 n2 l → IsRecord (recordBytes n1 n2 l)
 form-is-record n1 n2 l h k r =
     record { small1 = h; small2 = k; long = omega (arith, flat-length l); form = subst (λ m. RecordForm n1 n2 m) (sym (paired-flat l)) r }
 

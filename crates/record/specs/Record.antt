@@ -5,6 +5,7 @@ use mathlib.Core.List.{List, [], _∷_}
 use Prim.Native.Nat.{ℕ, _+_, _*_, _≤_, min}
 use lib.Dec.{leb, ltb, eqb}
 use lib.ListN.{length, getD, drop}
+use Rattle.limits.specs.Limits.{maxClass}
 use Rattle.laws.specs.Members.{all}
 use Rattle.front.specs.declared.Pair.{Pair}
 use Rattle.front.specs.Pair.{pairOf}
@@ -69,7 +70,7 @@ falling (p ∷ l) = fallsFrom p l
 
 abbrev pub isRecord : List ℕ → Bool
 isRecord b =
-    (leb (size1 b) 64 && leb (size2 b) 64)
+    (leb (size1 b) maxClass && leb (size2 b) maxClass)
     && (eqb (length b) (3 + 2 * count b) && leb (count b) (min (size1 b) (size2 b) + 1))
     && (all (inRange (size1 b) (size2 b)) (listed b) && falling (listed b))
 
@@ -78,7 +79,7 @@ pub record ListsFront (b : List ℕ) : Type 0 where
   pub n1 : ℕ
   pub n2 : ℕ
   pub pairs : List Pair
-  pub small1 : n1 ≤ 64
-  pub small2 : n2 ≤ 64
+  pub small1 : n1 ≤ maxClass
+  pub small2 : n2 ≤ maxClass
   pub within : AllWithin n1 n2 pairs
   pub bytes : b ≡ frontBytes n1 n2 pairs

@@ -2,13 +2,18 @@
 use crate::pair_at;
 use crate::read_head;
 use front::Pair;
+use limits::MAX_CLASS;
 use slices::wide;
 ghost use mathlib.Core.Path.{_≡_};
 ghost use mathlib.Core.Bool.{_&&_};
 ghost use Prim.Native.Nat.{_+_, _*_, _≤_};
 ghost use lib.ListN.{length};
+ghost use Rattle.limits.specs.Limits.{maxClass};
 ghost use Rattle.laws.specs.Members.{all};
 ghost use Rattle.record.specs.Record.{count, listed, inRange, follows, falling, isRecord};
+
+// The largest class size that a record may name.
+const MOST: u8 = MAX_CLASS as u8;
 
 // Number 12's test: whether the bytes are a front record.
 pub fn is_record(bytes: &[u8]) -> bool
@@ -18,10 +23,10 @@ pub fn is_record(bytes: &[u8]) -> bool
     let n1 = h.n1;
     let n2 = h.n2;
     let k = h.k;
-    if 64 < n1 {
+    if MOST < n1 {
         return false;
     }
-    if 64 < n2 {
+    if MOST < n2 {
         return false;
     }
     if bytes.len() != 3 + 2 * wide(k) {
@@ -38,7 +43,7 @@ pub fn is_record(bytes: &[u8]) -> bool
 
 // Whether every pair is in range, p1 strictly falls and p2 strictly rises.
 fn pairs_fit(bytes: &[u8], n1: u8, n2: u8) -> bool
-    requires { ⌜ (n1 ≤ 64) × (n2 ≤ 64) × (length (now bytes) ≡ 3 + 2 * count (now bytes)) ⌝ }
+    requires { ⌜ (n1 ≤ maxClass) × (n2 ≤ maxClass) × (length (now bytes) ≡ 3 + 2 * count (now bytes)) ⌝ }
     ensures { λ r. ⌜ r ≡ (all (inRange n1 n2) (listed (now (bytes .entry))) && falling (listed (now (bytes .entry)))) ⌝ }
 {
     let k = read_head(bytes).k;
@@ -57,7 +62,7 @@ fn pairs_fit(bytes: &[u8], n1: u8, n2: u8) -> bool
 
 // Whether p is in range and may follow the pair before it.
 fn fits(n1: u8, n2: u8, last: Pair, p: Pair) -> bool
-    requires { ⌜ (n1 ≤ 64) × (n2 ≤ 64) ⌝ }
+    requires { ⌜ (n1 ≤ maxClass) × (n2 ≤ maxClass) ⌝ }
     ensures { λ r. ⌜ r ≡ (inRange n1 n2 p && follows last p) ⌝ }
 {
     let x = p.p1.0;

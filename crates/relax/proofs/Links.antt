@@ -6,6 +6,7 @@ use Prim.Native.Nat.{ℕ, _+_, _*_, _/_, _≤_, _<_}
 use native.Mathlib.Omega.{arith}
 use lib.ListN.{length, getD, set, length-set}
 use lib.Seq.{getD-set-same, getD-set-other}
+use Rattle.limits.specs.Limits.{maxArcs, arcSize, arcCount}
 use Rattle.laws.specs.Tests.{order, equal}
 use Rattle.relax.specs.State.{Chains, to}
 
@@ -43,7 +44,7 @@ module _ {arcs first more : List ℕ} {n : ℕ} (c : Chains arcs first more n) (
 -- the first i places are linked
 pub record Linking (arcs first₀ more₀ first more : List ℕ) (n i : ℕ) : Type 0 where
   -- as many as there are arcs
-  pub count : n ≡ length arcs / 2
+  pub count : n ≡ arcCount arcs
   -- i of them done
   pub upto : i ≤ n
   -- as many heads
@@ -51,7 +52,7 @@ pub record Linking (arcs first₀ more₀ first more : List ℕ) (n i : ℕ) : T
   -- as many links
   pub long2 : length more ≡ length more₀
   -- a place fits a link
-  pub few : length arcs ≤ 2048
+  pub few : length arcs ≤ arcSize * maxArcs
   -- arcs lead to nodes that have a head
   pub ends : (i : ℕ) → i < length arcs → getD arcs i 0 < length first
   -- a link for every arc
@@ -61,7 +62,7 @@ pub record Linking (arcs first₀ more₀ first more : List ℕ) (n i : ℕ) : T
 
 module _ {arcs first₀ more₀ first more : List ℕ} {n i : ℕ} (k : Linking arcs first₀ more₀ first more n i) (h : i < n) (v : ℕ) (is : v ≡ to arcs i) where
   pub node : v < length first
-  node = rw is (k .ends (2 * i + 1) (omega (arith, k .count)))
+  node = rw is (k .ends (arcSize * i + 1) (omega (arith, k .count)))
 
   pub link-again : Linking arcs first₀ more₀ (set first v (i + 1)) (set more i (getD first v 0)) n (i + 1)
   link-again =
@@ -76,5 +77,5 @@ module _ {arcs first₀ more₀ first more : List ℕ} {n i : ℕ} (k : Linking 
         chains = linked (k .chains) v is (omega (arith, k .room)) node;
       }
 
-pub done : {arcs first₀ more₀ first more : List ℕ} {n i : ℕ} → Linking arcs first₀ more₀ first more n i → n ≤ i → Chains arcs first more (length arcs / 2)
+pub done : {arcs first₀ more₀ first more : List ℕ} {n i : ℕ} → Linking arcs first₀ more₀ first more n i → n ≤ i → Chains arcs first more (arcCount arcs)
 done {arcs} {first₀} {more₀} {first} {more} k h = subst (Chains arcs first more) (omega (arith, k .upto, k .count)) (k .chains)

@@ -6,6 +6,7 @@ use Prim.Native.Nat.{ℕ, zero, suc, _+_, _-_, _*_, _/_, _≤_, _<_, min}
 use native.Mathlib.Omega.{arith}
 use lib.ListN.{length, getD, set, length-set}
 use lib.Seq.{getD-set-same, getD-set-other}
+use Rattle.limits.specs.Limits.{maxNodes, maxArcs, arcSize, arcCount, maxPosition}
 use Rattle.laws.specs.Tests.{order, equal}
 use Rattle.laws.specs.Members.{_∈_}
 use Rattle.relax.specs.Labels.{Held, held-raise}
@@ -33,7 +34,7 @@ low-less l zero (x ∷ d) h k = omega (arith, low-short l d)
 low-less l (suc u) (x ∷ d) h k = omega (arith, low-less l u d (omega arith) k)
 
 -- ---- an arc that raises nothing is passed
-module _ {f : Graph} {first more : List ℕ} (ch : Chains (f .arcs) first more (length (f .arcs) / 2))
+module _ {f : Graph} {first more : List ℕ} (ch : Chains (f .arcs) first more (arcCount (f .arcs)))
     {a l : ℕ} {d stack wait : List ℕ} {top v i : ℕ} (w : Work f a l d stack wait top v i) (p : ℕ) (is : i ≡ suc p) where
   arrives : to (f .arcs) p ≡ v
   arrives = let e : p ≡ i - 1 = omega arith in ap (to (f .arcs)) e ∙ w .going (omega arith) .2
@@ -74,11 +75,11 @@ module _ {f : Graph} {first more : List ℕ} (ch : Chains (f .arcs) first more (
 -- ---- the start u of the arc at p is raised to c
 module _ {f : Graph} {a l : ℕ} {d stack wait : List ℕ} {top v i : ℕ} (w : Work f a l d stack wait top v i) (p : ℕ) (is : i ≡ suc p)
     (u : ℕ) (is-u : u ≡ from (f .arcs) p) (c : ℕ) (is-c : c ≡ min l (getD (f .cap) u 0)) (rise : getD d u 0 < c) where
-  in-arcs : 2 * p + 1 < length (f .arcs)
+  in-arcs : arcSize * p + 1 < length (f .arcs)
   in-arcs = omega (arith, w .going (omega arith) .1)
 
   pub node : u < length (f .entry)
-  node = rw is-u (w .laid .ends (2 * p) (omega (arith, in-arcs)))
+  node = rw is-u (w .laid .ends (arcSize * p) (omega (arith, in-arcs)))
 
   in-d : u < length d
   in-d = omega (arith, node, w .long)
@@ -116,7 +117,7 @@ module _ {f : Graph} {a l : ℕ} {d stack wait : List ℕ} {top v i : ℕ} (w : 
       (omega (arith, w .early, w .laid .small1)) (omega (arith, g .0 .at, w .some)) (omega (arith, at-u, is-c, g .0 .at, w .high, w .laid .small2))
 
   module _ (stack′ wait′ : List ℕ) (top′ : ℕ)
-      (long : 66 ≤ length wait′)
+      (long : maxPosition + 1 ≤ length wait′)
       (fits : top′ + low l (set d u c) ≤ length d)
       (same : (k : ℕ) → k < top → getD stack′ k 0 ≡ getD stack k 0)
       (more-top : top ≤ top′)
@@ -192,19 +193,19 @@ pub record Spreading (f : Graph) (first more : List ℕ) (a l : ℕ) (d₀ stack
   -- what they are to those at the start
   pub kept : Kept l d₀ stack₀ wait₀ top₀ d stack wait top
   -- the chains
-  pub chains : Chains (f .arcs) first more (length (f .arcs) / 2)
+  pub chains : Chains (f .arcs) first more (arcCount (f .arcs))
   -- the stack holds every node
   pub room : length d ≤ length stack
   -- a link for every arc
-  pub many : length (f .arcs) / 2 ≤ length more
+  pub many : arcCount (f .arcs) ≤ length more
 
 module _ {f : Graph} {first more : List ℕ} {a l : ℕ} {d₀ stack₀ wait₀ : List ℕ} {top₀ : ℕ} {d stack wait : List ℕ} {top v i : ℕ}
     (s : Spreading f first more a l d₀ stack₀ wait₀ top₀ d stack wait top v i) (p : ℕ) (is : i ≡ suc p) where
-  pub place : (p < length more) × (2 * p + 1 < length (f .arcs)) × (p < 1024)
+  pub place : (p < length more) × (arcSize * p + 1 < length (f .arcs)) × (p < maxArcs)
   place = omega (arith, s .work .going (omega arith) .1, s .many, s .work .laid .many)
 
-  pub at-node : (u : ℕ) → u ≡ from (f .arcs) p → (u < length (f .entry)) × (u < length (f .cap)) × (u < length d) × (u < 160)
-  at-node u is-u = let h : u < length (f .entry) = rw is-u (s .work .laid .ends (2 * p) (omega (arith, place))) in omega (arith, h, s .work .long, s .work .laid .same, s .work .laid .few)
+  pub at-node : (u : ℕ) → u ≡ from (f .arcs) p → (u < length (f .entry)) × (u < length (f .cap)) × (u < length d) × (u < maxNodes)
+  at-node u is-u = let h : u < length (f .entry) = rw is-u (s .work .laid .ends (arcSize * p) (omega (arith, place))) in omega (arith, h, s .work .long, s .work .laid .same, s .work .laid .few)
 
 -- a turn: the arc at p, what follows it in its chain, its start u, and what the level gives u
 pub record Turn (f : Graph) (first more : List ℕ) (a l : ℕ) (d₀ stack₀ wait₀ : List ℕ) (top₀ : ℕ) (d stack wait : List ℕ) (top v i p m u c : ℕ) : Type 0 where
@@ -224,7 +225,7 @@ module _ {f : Graph} {first more : List ℕ} {a l : ℕ} {d₀ stack₀ wait₀ 
   pub falls : m < i
   falls = omega (arith, t .is-m, down (t .state .chains) (t .state .work) p (t .is-p))
 
-  pub node-in : (u < length (f .entry)) × (u < length (f .cap)) × (u < length d) × (u < 160)
+  pub node-in : (u < length (f .entry)) × (u < length (f .cap)) × (u < length d) × (u < maxNodes)
   node-in = at-node (t .state) p (t .is-p) u (t .is-u)
 
   on : {d₁ stack₁ wait₁ : List ℕ} {top₁ : ℕ} → Work f a l d₁ stack₁ wait₁ top₁ v i → c ≤ getD d₁ u 0 → Work f a l d₁ stack₁ wait₁ top₁ v m
@@ -241,7 +242,7 @@ module _ {f : Graph} {first more : List ℕ} {a l : ℕ} {d₀ stack₀ wait₀ 
     grown : low l (set d u c) ≤ low l d
     grown = low-grow l u c d (node-in .2) (omega arith)
 
-    pub level-in : (c < length wait) × (c < 66)
+    pub level-in : (c < length wait) × (c < maxPosition + 1)
     level-in = omega (arith, t .is-c, t .state .work .high, t .state .work .laid .small2, t .state .work .long-wait)
 
     pub again-waits : (k : ℕ) → k ≡ c → c < l → Spreading f first more a l d₀ stack₀ wait₀ top₀ (set d u c) stack (set wait k (from (f .arcs) p + 1)) top v m
@@ -266,7 +267,7 @@ module _ {f : Graph} {first more : List ℕ} {a l : ℕ} {d₀ stack₀ wait₀ 
           many = q .many;
         }
 
-    pub space : l ≤ c → (top < length stack) × (top < 160)
+    pub space : l ≤ c → (top < length stack) × (top < maxNodes)
     space h = omega (arith, room (t .state .work) p (t .is-p) u (t .is-u) c (t .is-c) rise h, t .state .room, t .state .work .short)
 
     pub again-pushed : l ≤ c → a < getD (f .entry) u 0 → Spreading f first more a l d₀ stack₀ wait₀ top₀ (set d u c) (set stack top (from (f .arcs) p)) wait (top + 1) v m

@@ -3,6 +3,7 @@ use mathlib.Core.Path.{_≡_}
 use mathlib.Core.List.{List, [], _∷_}
 use Prim.Native.Nat.{ℕ, suc, _+_, _-_, _*_, _/_, _≤_, _<_, min, max}
 use lib.ListN.{length, getD}
+use Rattle.limits.specs.Limits.{maxNodes, maxArcs, arcSize, arcCount, maxClass, maxPosition}
 use Rattle.front.specs.Pair.{pairOf}
 use Rattle.parts.specs.Study.{arcsFrom}
 use Rattle.network.specs.Walk.{Network}
@@ -48,19 +49,19 @@ net f =
 
 -- the ends of the arc at place j
 abbrev pub from : List ℕ → ℕ → ℕ
-from arcs j = getD arcs (2 * j) 0
+from arcs j = getD arcs (arcSize * j) 0
 
 abbrev pub to : List ℕ → ℕ → ℕ
-to arcs j = getD arcs (2 * j + 1) 0
+to arcs j = getD arcs (arcSize * j + 1) 0
 
 -- what the search is given: ends of arcs are nodes, capacities are in range, and no two nodes share a class 2 position
 pub record Laid (f : Graph) : Type 0 where
   -- a capacity of both classes for every node
   pub same : length (f .cap) ≡ length (f .entry)
   -- 01: N
-  pub few : length (f .entry) ≤ 160
+  pub few : length (f .entry) ≤ maxNodes
   -- 01: A, two bytes each
-  pub many : length (f .arcs) ≤ 2048
+  pub many : length (f .arcs) ≤ arcSize * maxArcs
   -- arcs lead between nodes
   pub ends : (i : ℕ) → i < length (f .arcs) → getD (f .arcs) i 0 < length (f .entry)
   -- the source is a node
@@ -70,9 +71,9 @@ pub record Laid (f : Graph) : Type 0 where
   -- the target's label is a label
   pub t-pos : 0 < getD (f .cap) (f .target) 0
   -- 01: n1
-  pub small1 : f .n1 ≤ 64
+  pub small1 : f .n1 ≤ maxClass
   -- 01: n2
-  pub small2 : f .n2 ≤ 64
+  pub small2 : f .n2 ≤ maxClass
   -- no class 2 capacity is above n2 + 1
   pub high : (v : ℕ) → v < length (f .entry) → getD (f .cap) v 0 ≤ suc (f .n2)
   -- each class 2 position has one node
@@ -148,9 +149,9 @@ pub record Work (f : Graph) (a l : ℕ) (d stack wait : List ℕ) (top v i : ℕ
   -- every node has a label
   pub long : length (f .entry) ≤ length d
   -- no more labels than nodes can be
-  pub short : length d ≤ 160
+  pub short : length d ≤ maxNodes
   -- every level has a mark
-  pub long-wait : 66 ≤ length wait
+  pub long-wait : maxPosition + 1 ≤ length wait
   -- each label has a walk to the target
   pub held : Held (net f) a (λ v. getD d v 0)
   -- no more failures than class 1 has
@@ -166,11 +167,11 @@ pub record Work (f : Graph) (a l : ℕ) (d stack wait : List ℕ) (top v i : ℕ
   -- on the stack: nodes that are in, at this level
   pub pile : (k : ℕ) → k < top → Ripe f a l d (getD stack k 0)
   -- the node at work is one of them, and place i - 1 is in its chain
-  pub going : 0 < i → Ripe f a l d v × (i ≤ length (f .arcs) / 2) × (to (f .arcs) (i - 1) ≡ v)
+  pub going : 0 < i → Ripe f a l d v × (i ≤ arcCount (f .arcs)) × (to (f .arcs) (i - 1) ≡ v)
   -- what waits is named
   pub marked : Marked f d wait
   -- every arc into a node that is in is seen to
-  pub why : (j : ℕ) → j < length (f .arcs) / 2 → a < getD (f .entry) (to (f .arcs) j) 0 → Why f l d stack wait top v i j
+  pub why : (j : ℕ) → j < arcCount (f .arcs) → a < getD (f .entry) (to (f .arcs) j) 0 → Why f l d stack wait top v i j
 
 -- the largest level that waits, between floor and l, or 0
 pub record Next (wait : List ℕ) (l floor r : ℕ) : Type 0 where
@@ -190,9 +191,9 @@ pub record Still (f : Graph) (a : ℕ) (d wait : List ℕ) : Type 0 where
   -- every node has a label
   pub long : length (f .entry) ≤ length d
   -- no more labels than nodes can be
-  pub short : length d ≤ 160
+  pub short : length d ≤ maxNodes
   -- every level has a mark
-  pub long-wait : 66 ≤ length wait
+  pub long-wait : maxPosition + 1 ≤ length wait
   -- each label has a walk to the target
   pub held : Held (net f) a (λ v. getD d v 0)
   -- once both ends are in, the target has its capacity
@@ -202,7 +203,7 @@ pub record Still (f : Graph) (a : ℕ) (d wait : List ℕ) : Type 0 where
   -- what waits is named
   pub marked : Marked f d wait
   -- no arc into a node that is in raises a label above that of the source
-  pub calm : (j : ℕ) → j < length (f .arcs) / 2 → a < getD (f .entry) (to (f .arcs) j) 0 → Quiet f d j
+  pub calm : (j : ℕ) → j < arcCount (f .arcs) → a < getD (f .entry) (to (f .arcs) j) 0 → Quiet f d j
 
 -- a spread keeps the lengths, and each push lowers the count of low labels
 pub record Kept (l : ℕ) (d₀ stack₀ wait₀ : List ℕ) (top₀ : ℕ) (d stack wait : List ℕ) (top : ℕ) : Type 0 where
@@ -220,7 +221,7 @@ pub record Room (arcs entry first more d stack : List ℕ) : Type 0 where
   -- a head for every node
   pub nodes : length entry ≤ length first
   -- a link for every arc
-  pub places : length arcs / 2 ≤ length more
+  pub places : arcCount arcs ≤ length more
   -- the stack holds every node
   pub labels : length d ≤ length stack
 

@@ -1,10 +1,12 @@
 // Labels relaxed along the arcs into a node, and these arcs as a chain.
 use front::Pos1;
 use front::Pos2;
+use limits::ARC;
 use slices::wide;
 ghost use mathlib.Core.Path.{_≡_};
-ghost use Prim.Native.Nat.{ℕ, _-_, _/_, _≤_, _<_};
+ghost use Prim.Native.Nat.{ℕ, _-_, _/_, _≤_, _<_, _*_};
 ghost use lib.ListN.{length, getD};
+ghost use Rattle.limits.specs.Limits.{maxArcs, arcSize, arcCount};
 ghost use Rattle.relax.specs.State.{graphOf, moved, Chains, Work, Kept};
 
 // Where a spread stands: the ends and sizes of the network; x, one more than the class 1 failures;
@@ -45,18 +47,18 @@ fn wide2(x: u16) -> usize
 // The arcs into each node as a chain of places, the later place first; a place is kept as one more,
 // and 0 ends a chain.
 pub fn link(arcs: &[u8], first: &mut [u16], more: &mut [u16])
-    requires few { ⌜ length (now arcs) ≤ 2048 ⌝ }
+    requires few { ⌜ length (now arcs) ≤ arcSize * maxArcs ⌝ }
     requires ends { ⌜ ((i : ℕ) → i < length (now arcs) → getD (now arcs) i 0 < length (now first)) ⌝ }
-    requires room { ⌜ length (now arcs) / 2 ≤ length (now more) ⌝ }
+    requires room { ⌜ arcCount (now arcs) ≤ length (now more) ⌝ }
     requires clear { ⌜ ((v : ℕ) → getD (now first) v 0 ≡ 0) ⌝ }
     ensures long1 { λ r. ⌜ length (now (first .exit)) ≡ length (now (first .entry)) ⌝ }
     ensures long2 { λ r. ⌜ length (now (more .exit)) ≡ length (now (more .entry)) ⌝ }
-    ensures chains { λ r. ⌜ Chains (now (arcs .entry)) (now (first .exit)) (now (more .exit)) (length (now (arcs .entry)) / 2) ⌝ }
+    ensures chains { λ r. ⌜ Chains (now (arcs .entry)) (now (first .exit)) (now (more .exit)) (arcCount (now (arcs .entry))) ⌝ }
 {
-    let n = arcs.len() / 2;
+    let n = arcs.len() / ARC;
     let mut i: usize = 0;
     while i < n {
-        let v = wide(arcs[2 * i + 1]);
+        let v = wide(arcs[ARC * i + 1]);
         more[i] = first[v];
         i += 1;
         first[v] = i as u16;
@@ -76,8 +78,8 @@ pub fn spread(
     wait: &mut [u8],
 ) -> usize
     requires work { ⌜ Work (graphOf (now arcs) (now entry) (now cap) at) (at .x .0 - 1) (at .level .0) (now label) (now stack) (now wait) (at .top) (at .node) (getD (now first) (at .node) 0) ⌝ }
-    requires chains { ⌜ Chains (now arcs) (now first) (now more) (length (now arcs) / 2) ⌝ }
-    requires room { ⌜ (0 < at .x .0) × (length (now label) ≤ length (now stack)) × (at .node < length (now first)) × (length (now arcs) / 2 ≤ length (now more)) ⌝ }
+    requires chains { ⌜ Chains (now arcs) (now first) (now more) (arcCount (now arcs)) ⌝ }
+    requires room { ⌜ (0 < at .x .0) × (length (now label) ≤ length (now stack)) × (at .node < length (now first)) × (arcCount (now arcs) ≤ length (now more)) ⌝ }
     ensures work { λ r. ⌜ Work (graphOf (now (arcs .entry)) (now (entry .entry)) (now (cap .entry)) at) (at .x .0 - 1) (at .level .0) (now (label .exit)) (now (stack .exit)) (now (wait .exit)) r (at .node) 0 ⌝ }
     ensures kept { λ r. ⌜ Kept (at .level .0) (now (label .entry)) (now (stack .entry)) (now (wait .entry)) (at .top) (now (label .exit)) (now (stack .exit)) (now (wait .exit)) r ⌝ }
 {
@@ -86,7 +88,7 @@ pub fn spread(
     while 0 < i {
         let p = i - 1;
         i = wide2(more[p]);
-        let from = arcs[2 * p];
+        let from = arcs[ARC * p];
         let u = wide(from);
         let c = at.level.min(Pos2(cap[u]));
         if Pos2(label[u]).at_least(c) {

@@ -6,6 +6,7 @@ use native.Mathlib.Nat.{le-trans}
 use native.Mathlib.Omega.{arith}
 use lib.ListN.{length, getD, drop, length-append, List·getD-append}
 use lib.Seq.{getD-drop}
+use Rattle.limits.specs.Limits.{maxRounds}
 use Rattle.laws.specs.Sums.{sumTo, sum-same, sum-bound}
 use Rattle.answer.specs.Outcome.{success}
 use Rattle.chance.specs.Chance.{weights, weight}
@@ -40,7 +41,7 @@ module _ (t : List ℕ) (fine : stateAnswer t ≡ success (0 ∷ [])) (p1 p2 : �
 
   row-most : (l1 : ℕ) → l1 ≤ size1 t → row l1 ≤ 1000000000000
   row-most l1 h =
-      omega (arith, weight-total p2 ok2 (size2 t), sum-bound (suc (size2 t)) 100000 (weight p2 (size2 t)) (cell t l1) (λ l2 k. le-trans (s .grows .below l1 l2 h (omega arith)) (s .few)))
+      omega (arith, weight-total p2 ok2 (size2 t), sum-bound (suc (size2 t)) maxRounds (weight p2 (size2 t)) (cell t l1) (λ l2 k. le-trans (s .grows .below l1 l2 h (omega arith)) (s .few)))
 
   pub row-fits : (l1 : ℕ) → l1 ≤ size1 t → rowSum (drop head t) (l1 * width (size2 t)) v (width (size2 t)) ≤ 1000000000000
   row-fits l1 h = rw (row-is l1) (row-most l1 h)

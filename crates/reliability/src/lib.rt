@@ -3,10 +3,13 @@ use answer::Done;
 use answer::Rate;
 use answer::Rated;
 use answer::Refusal;
+use limits::MAX_CLASS;
 use soundness::HEAD;
+use soundness::ROUNDS;
 ghost use mathlib.Core.Path.{_≡_};
 ghost use Prim.Native.Nat.{ℕ, _+_, _*_, _≤_, _<_};
 ghost use lib.ListN.{length};
+ghost use Rattle.limits.specs.Limits.{maxClass};
 ghost use Rattle.answer.specs.Outcome.{rated};
 ghost use Rattle.chance.specs.Chance.{rateR};
 ghost use Rattle.soundness.specs.Tally.{rounds};
@@ -28,7 +31,7 @@ fn row(cells: &[u32], at: usize, v: &[u32], n: usize) -> u64
 
 // Document 01's S: the rows, each times the weight of its count.
 fn total(cells: &[u32], u: &[u32], v: &[u32], n1: usize, n2: usize) -> u64
-    requires { ⌜ (n1 ≤ 64) × (n2 ≤ 64) × ((n1 + 1) * (n2 + 1) ≤ length (now cells)) × (n1 < length (now u)) × (n2 < length (now v)) × ((l1 : ℕ) → l1 ≤ n1 → rowSum (now cells) (l1 * (n2 + 1)) (now v) (n2 + 1) ≤ 1000000000000) × (rowsSum (now cells) (now u) (now v) n2 (n1 + 1) ≤ 10000000000000000000) ⌝ }
+    requires { ⌜ (n1 ≤ maxClass) × (n2 ≤ maxClass) × ((n1 + 1) * (n2 + 1) ≤ length (now cells)) × (n1 < length (now u)) × (n2 < length (now v)) × ((l1 : ℕ) → l1 ≤ n1 → rowSum (now cells) (l1 * (n2 + 1)) (now v) (n2 + 1) ≤ 1000000000000) × (rowsSum (now cells) (now u) (now v) n2 (n1 + 1) ≤ 10000000000000000000) ⌝ }
     ensures { λ r. ⌜ r ≡ rowsSum (now (cells .entry)) (now (u .entry)) (now (v .entry)) n2 (n1 + 1) ⌝ }
 {
     let w = n2 + 1;
@@ -50,12 +53,12 @@ fn rate_of(tally: &[u32], p1: u32, p2: u32) -> Rate
 {
     let n1 = tally[0] as usize;
     let n2 = tally[1] as usize;
-    let mut u = [0u32; 65];
-    let mut v = [0u32; 65];
+    let mut u = [0u32; MAX_CLASS + 1];
+    let mut v = [0u32; MAX_CLASS + 1];
     weights::fill(p1, n1, &mut u);
     weights::fill(p2, n2, &mut v);
     let s = total(&tally[HEAD..], &u, &v, n1, n2);
-    let m = tally[2] as u64;
+    let m = tally[ROUNDS] as u64;
     Rate {
         sum: s,
         rounds: m,
@@ -73,7 +76,7 @@ pub fn reliability(tally: &[u32], p1: u32, p2: u32) -> Rated
     match soundness::check(tally) {
         Done::Refused(r) => Rated::Refused(r),
         Done::Done => {
-            if tally[2] == 0 {
+            if tally[ROUNDS] == 0 {
                 return Rated::Refused(Refusal::NoRounds);
             }
             Rated::Found(rate_of(tally, p1, p2))

@@ -3,8 +3,11 @@ use answer::Header;
 use answer::Opened;
 use answer::Refusal;
 use answer::Written;
+use buffer::LONGEST;
 use libc::STDIN_FILENO;
 use libc::STDOUT_FILENO;
+use lines::LINE;
+use soundness::LARGEST;
 ghost use mathlib.Core.Path.{_≡_};
 ghost use Prim.Native.Nat.{_≤_};
 ghost use lib.Dec.{T};
@@ -14,7 +17,7 @@ ghost use Rattle.answer.specs.Outcome.{success, refused, numberOf, headerValues
 ghost use Rattle.record.specs.Record.{isRecord};
 ghost use Rattle.tally.specs.Calls.{addOut};
 ghost use Rattle.tally.specs.Adds.{succeeds};
-ghost use Rattle.lines.specs.Text.{frontLine};
+ghost use Rattle.lines.specs.Text.{lineRoom, frontLine};
 ghost use Rattle.lines.specs.Report.{searched, roundLine, roundTally, reportOpens, reportLines, lineAt, Due, Next, SentOf};
 
 // A line in the buffer, and whether another follows.
@@ -25,7 +28,7 @@ struct Line {
 
 // The line of a front, which is added to the tally.
 fn add_front(round: usize, record: &[u8], tally: &mut [u32], out: &mut [u8]) -> usize
-    requires { ⌜ (4096 ≤ length (now out)) × T (isRecord (now «record»)) ⌝ }
+    requires { ⌜ (lineRoom ≤ length (now out)) × T (isRecord (now «record»)) ⌝ }
     ensures end { λ r. ⌜ r ≡ length (frontLine round (now («record» .entry))) ⌝ }
     ensures slice { λ _. ⌜ now (out .exit) ≡ placed 0 (frontLine round (now («record» .entry))) (now (out .entry)) ⌝ }
     ensures tally { λ _. ⌜ now (tally .exit) ≡ addOut (now («record» .entry)) (now (tally .entry)) ⌝ }
@@ -36,12 +39,12 @@ fn add_front(round: usize, record: &[u8], tally: &mut [u32], out: &mut [u8]) -> 
 
 // The line of a round.
 fn round_line(file: &[u8], round: usize, tally: &mut [u32], out: &mut [u8]) -> Line
-    requires { ⌜ 4096 ≤ length (now out) ⌝ }
+    requires { ⌜ lineRoom ≤ length (now out) ⌝ }
     ensures told { λ r. ⌜ (r .length ≡ length (roundLine (now (file .entry)) round)) × (r .more ≡ succeeds (searched (now (file .entry)) round)) ⌝ }
     ensures slice { λ _. ⌜ now (out .exit) ≡ placed 0 (roundLine (now (file .entry)) round) (now (out .entry)) ⌝ }
     ensures tally { λ _. ⌜ now (tally .exit) ≡ roundTally (now (file .entry)) round (now (tally .entry)) ⌝ }
 {
-    let mut record = [0u8; 133];
+    let mut record = [0u8; LONGEST];
     match search::search(file, round, &mut record) {
         Written::Refused(r) => Line {
             length: lines::refused_line(answer::number(r) as u64, out),
@@ -56,7 +59,7 @@ fn round_line(file: &[u8], round: usize, tally: &mut [u32], out: &mut [u8]) -> L
 
 // Line i of an open study: its sizes, then its rounds, then its counts.
 fn study_line(file: &[u8], h: Header, i: usize, tally: &mut [u32], out: &mut [u8]) -> Line
-    requires { ⌜ (4096 ≤ length (now out)) × (reportOpens (now file) ≡ success (headerValues h)) × Due (now file) (headerValues h) i (now tally) ⌝ }
+    requires { ⌜ (lineRoom ≤ length (now out)) × (reportOpens (now file) ≡ success (headerValues h)) × Due (now file) (headerValues h) i (now tally) ⌝ }
     ensures end { λ r. ⌜ r .length ≡ length (lineAt (now (file .entry)) i) ⌝ }
     ensures slice { λ _. ⌜ now (out .exit) ≡ placed 0 (lineAt (now (file .entry)) i) (now (out .entry)) ⌝ }
     ensures next { λ r. ⌜ Next (now (file .entry)) (headerValues h) i (r .more) (now (tally .exit)) ⌝ }
@@ -93,7 +96,7 @@ struct Sent {
 
 // The report on an open study, line after line up to the first write that fails.
 fn report_study(file: &[u8], h: Header, tally: &mut [u32], out: &mut [u8]) -> Sent
-    requires { ⌜ (4096 ≤ length (now out)) × (reportOpens (now file) ≡ success (headerValues h)) × Due (now file) (headerValues h) 0 (now tally) ⌝ }
+    requires { ⌜ (lineRoom ≤ length (now out)) × (reportOpens (now file) ≡ success (headerValues h)) × Due (now file) (headerValues h) 0 (now tally) ⌝ }
     ensures { λ r. ⌜ SentOf (reportLines (now (file .entry))) (r .lines) (r .whole) ⌝ }
 {
     let mut i: usize = 0;
@@ -116,11 +119,14 @@ fn report_study(file: &[u8], h: Header, tally: &mut [u32], out: &mut [u8]) -> Se
     }
 }
 
-// Opens what was read; a study on standard input has at most 65,536 bytes.
+// The most bytes that a study on standard input has.
+const MAX_INPUT: usize = 65536;
+
+// Opens what was read.
 fn open_input(file: &[u8]) -> Opened
     ensures { λ r. ⌜ opened r ≡ reportOpens (now (file .entry)) ⌝ }
 {
-    if 65536 < file.len() {
+    if MAX_INPUT < file.len() {
         return Opened::Refused(Refusal::FileLength);
     }
     study::open_study(file)
@@ -131,7 +137,7 @@ fn report_refusal(file: &[u8], refusal: Refusal) -> Sent
     requires { ⌜ reportOpens (now file) ≡ refused (numberOf refusal) ⌝ }
     ensures { λ r. ⌜ SentOf (reportLines (now (file .entry))) (r .lines) (r .whole) ⌝ }
 {
-    let mut out = [0u8; 4096];
+    let mut out = [0u8; LINE];
     let n = lines::refused_line(answer::number(refusal) as u64, &mut out);
     if !write_line(file, 0, &out[..n]) {
         return Sent {
@@ -152,8 +158,8 @@ fn report(file: &[u8]) -> Sent
     match open_input(file) {
         Opened::Refused(r) => report_refusal(file, r),
         Opened::Study(h) => {
-            let mut tally = [0u32; 4228];
-            let mut out = [0u8; 4096];
+            let mut tally = [0u32; LARGEST];
+            let mut out = [0u8; LINE];
             tally::new(h.n1 as u32, h.n2 as u32, &mut tally);
             report_study(file, h, &mut tally, &mut out)
         }
@@ -161,7 +167,7 @@ fn report(file: &[u8]) -> Sent
 }
 
 fn main() {
-    let mut space = [0u8; 65537];
+    let mut space = [0u8; MAX_INPUT + 1];
     let n = io::read_full(STDIN_FILENO, &mut space);
     report(&space[..n]);
 }

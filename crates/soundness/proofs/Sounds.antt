@@ -11,6 +11,7 @@ use lib.Dec.{leb}
 use lib.ListN.{getD, drop}
 use lib.Seq.{getD-drop}
 use borrow.Author.Tests.{leb-true, le-leb, lt-leb}
+use Rattle.limits.specs.Limits.{maxRounds, maxClass}
 use Rattle.laws.specs.Tests.{T-ext, T-true, and-both, order}
 use Rattle.laws.specs.Every.{every, every-at, every-all}
 use Rattle.chance.specs.Chance.{Grows}
@@ -152,9 +153,9 @@ module _ (t : List ℕ) where
   pub sound-is : (isSound t ≡ true) ↔ Sound t
   sound-is = (
     λ e.
-        let u = and-both (leb n1 64 && leb n2 64 && leb m 100000) allFair e in
-        let v = and-both (leb n1 64 && leb n2 64) (leb m 100000) (u .0) in
-        let w = and-both (leb n1 64) (leb n2 64) (v .0) in
-        record { small1 = leb-true n1 64 (w .0); small2 = leb-true n2 64 (w .1); few = leb-true m 100000 (v .1); grows = fair-grows .0 (u .1) },
-    λ s. both (both (both (le-leb n1 64 (s .small1)) (le-leb n2 64 (s .small2))) (le-leb m 100000 (s .few))) (fair-grows .1 (s .grows)),
+        let u = and-both (leb n1 maxClass && leb n2 maxClass && leb m maxRounds) allFair e in
+        let v = and-both (leb n1 maxClass && leb n2 maxClass) (leb m maxRounds) (u .0) in
+        let w = and-both (leb n1 maxClass) (leb n2 maxClass) (v .0) in
+        record { small1 = leb-true n1 maxClass (w .0); small2 = leb-true n2 maxClass (w .1); few = leb-true m maxRounds (v .1); grows = fair-grows .0 (u .1) },
+    λ s. both (both (both (le-leb n1 maxClass (s .small1)) (le-leb n2 maxClass (s .small2))) (le-leb m maxRounds (s .few))) (fair-grows .1 (s .grows)),
   )

@@ -6,6 +6,7 @@ use Prim.Native.Nat.{ℕ, _≤_, _<_}
 use lib.Dec.{leb, ltb}
 use lib.ListN.{length, drop}
 use borrow.Author.Tests.{le-leb, lt-leb, le-ltb, lt-ltb, ltb-true, ltb-false, not-false}
+use Rattle.limits.specs.Limits.{maxRounds, maxClass}
 use Rattle.laws.specs.Tests.{or-none}
 use Rattle.laws.specs.Members.{here, there}
 use Rattle.answer.specs.Outcome.{success, refused}
@@ -14,19 +15,19 @@ use Rattle.soundness.specs.Tally.{head, size1, size2, rounds, words, noR
 use Rattle.soundness.proofs.Sounds.{fair-code, sound-is}
 
 -- one of two sizes is too large, or none
-not-both : (a b : ℕ) → ltb 64 a || ltb 64 b ≡ true → leb a 64 && leb b 64 ≡ false
-not-both a b e = go (ltb 64 a) refl e
+not-both : (a b : ℕ) → ltb maxClass a || ltb maxClass b ≡ true → leb a maxClass && leb b maxClass ≡ false
+not-both a b e = go (ltb maxClass a) refl e
   where
     second : (x : Bool) → x && false ≡ false
     second true = refl
     second false = refl
 
-    go : (x : Bool) → ltb 64 a ≡ x → x || ltb 64 b ≡ true → leb a 64 && leb b 64 ≡ false
-    go true q h = rw (lt-leb a 64 (ltb-true 64 a q))
-    go false q h = rw (lt-leb b 64 (ltb-true 64 b h)) (second (leb a 64))
+    go : (x : Bool) → ltb maxClass a ≡ x → x || ltb maxClass b ≡ true → leb a maxClass && leb b maxClass ≡ false
+    go true q h = rw (lt-leb a maxClass (ltb-true maxClass a q))
+    go false q h = rw (lt-leb b maxClass (ltb-true maxClass b h)) (second (leb a maxClass))
 
-pub neither : (a b : ℕ) → ltb 64 a || ltb 64 b ≡ false → (a ≤ 64) × (b ≤ 64)
-neither a b e = let k = or-none (ltb 64 a) (ltb 64 b) e in (ltb-false 64 a (k .0), ltb-false 64 b (k .1))
+pub neither : (a b : ℕ) → ltb maxClass a || ltb maxClass b ≡ false → (a ≤ maxClass) × (b ≤ maxClass)
+neither a b e = let k = or-none (ltb maxClass a) (ltb maxClass b) e in (ltb-false maxClass a (k .0), ltb-false maxClass b (k .1))
 
 module _ (t : List ℕ) where
   unsound : noRoom t ≡ false → isSound t ≡ false → stateAnswer t ≡ refused 22
@@ -36,26 +37,26 @@ module _ (t : List ℕ) where
   too-short h = rw (lt-ltb (length t) head h)
 
   module _ (long : head ≤ length t) where
-    pub too-large : ltb 64 (size1 t) || ltb 64 (size2 t) ≡ true → stateAnswer t ≡ refused 22
+    pub too-large : ltb maxClass (size1 t) || ltb maxClass (size2 t) ≡ true → stateAnswer t ≡ refused 22
     too-large e = rw (le-ltb (length t) head long, not-both (size1 t) (size2 t) e)
 
-    module _ (small : ltb 64 (size1 t) || ltb 64 (size2 t) ≡ false) where
-      pub sizes : (size1 t ≤ 64) × (size2 t ≤ 64)
+    module _ (small : ltb maxClass (size1 t) || ltb maxClass (size2 t) ≡ false) where
+      pub sizes : (size1 t ≤ maxClass) × (size2 t ≤ maxClass)
       sizes = neither (size1 t) (size2 t) small
 
       pub no-cells : length t < words (size1 t) (size2 t) → stateAnswer t ≡ refused 21
-      no-cells h = rw (le-ltb (length t) head long, le-leb (size1 t) 64 (sizes .0), le-leb (size2 t) 64 (sizes .1), lt-ltb (length t) (words (size1 t) (size2 t)) h)
+      no-cells h = rw (le-ltb (length t) head long, le-leb (size1 t) maxClass (sizes .0), le-leb (size2 t) maxClass (sizes .1), lt-ltb (length t) (words (size1 t) (size2 t)) h)
 
       module _ (room : words (size1 t) (size2 t) ≤ length t) where
         roomy : noRoom t ≡ false
-        roomy = rw (le-ltb (length t) head long, le-leb (size1 t) 64 (sizes .0), le-leb (size2 t) 64 (sizes .1), le-ltb (length t) (words (size1 t) (size2 t)) room)
+        roomy = rw (le-ltb (length t) head long, le-leb (size1 t) maxClass (sizes .0), le-leb (size2 t) maxClass (sizes .1), le-ltb (length t) (words (size1 t) (size2 t)) room)
 
-        pub too-many : 100000 < rounds t → stateAnswer t ≡ refused 22
-        too-many h = unsound roomy (rw (le-leb (size1 t) 64 (sizes .0), le-leb (size2 t) 64 (sizes .1), lt-leb (rounds t) 100000 h))
+        pub too-many : maxRounds < rounds t → stateAnswer t ≡ refused 22
+        too-many h = unsound roomy (rw (le-leb (size1 t) maxClass (sizes .0), le-leb (size2 t) maxClass (sizes .1), lt-leb (rounds t) maxRounds h))
 
-        module _ (few : rounds t ≤ 100000) where
+        module _ (few : rounds t ≤ maxRounds) where
           tested : isSound t ≡ isFair (drop head t) (size1 t) (size2 t) (rounds t)
-          tested = rw (le-leb (size1 t) 64 (sizes .0), le-leb (size2 t) 64 (sizes .1), le-leb (rounds t) 100000 few) (sym (fair-code t))
+          tested = rw (le-leb (size1 t) maxClass (sizes .0), le-leb (size2 t) maxClass (sizes .1), le-leb (rounds t) maxRounds few) (sym (fair-code t))
 
           pub unfair : isFair (drop head t) (size1 t) (size2 t) (rounds t) ≡ false → stateAnswer t ≡ refused 22
           unfair e = unsound roomy (tested ∙ e)
@@ -72,10 +73,10 @@ module _ (t : List ℕ) (fine : stateAnswer t ≡ success (0 ∷ [])) where
   has-room = outcome-tests (stateTests t) (0 ∷ []) fine (21, noRoom t) here
 
   pub state-long : head ≤ length t
-  state-long = ltb-false (length t) head (or-none (ltb (length t) head) (leb (size1 t) 64 && leb (size2 t) 64 && ltb (length t) (words (size1 t) (size2 t))) has-room .0)
+  state-long = ltb-false (length t) head (or-none (ltb (length t) head) (leb (size1 t) maxClass && leb (size2 t) maxClass && ltb (length t) (words (size1 t) (size2 t))) has-room .0)
 
   pub state-room : words (size1 t) (size2 t) ≤ length t
   state-room =
       ltb-false (length t) (words (size1 t) (size2 t))
-      (rw (le-leb (size1 t) 64 (state-sound .small1), le-leb (size2 t) 64 (state-sound .small2)) at
-      (or-none (ltb (length t) head) (leb (size1 t) 64 && leb (size2 t) 64 && ltb (length t) (words (size1 t) (size2 t))) has-room .1))
+      (rw (le-leb (size1 t) maxClass (state-sound .small1), le-leb (size2 t) maxClass (state-sound .small2)) at
+      (or-none (ltb (length t) head) (leb (size1 t) maxClass && leb (size2 t) maxClass && ltb (length t) (words (size1 t) (size2 t))) has-room .1))

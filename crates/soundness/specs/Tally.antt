@@ -4,6 +4,7 @@ use mathlib.Core.List.{List, [], _∷_}
 use Prim.Native.Nat.{ℕ, _+_, _*_, _≤_}
 use lib.Dec.{leb, ltb}
 use lib.ListN.{length, getD}
+use Rattle.limits.specs.Limits.{maxRounds, maxClass}
 use Rattle.laws.specs.Every.{every}
 use Rattle.answer.specs.Outcome.{Outcome, outcome}
 use Rattle.chance.specs.Chance.{Grows}
@@ -29,13 +30,17 @@ width n2 = n2 + 1
 abbrev pub words : ℕ → ℕ → ℕ
 words n1 n2 = head + (n1 + 1) * width n2
 
+-- the words of the largest tally
+abbrev pub largest : ℕ
+largest = words maxClass maxClass
+
 abbrev pub cell : List ℕ → ℕ → ℕ → ℕ
 cell t l1 l2 = getD t (head + (l1 * width (size2 t) + l2)) 0
 
 -- ---- NUMBERS 21 AND 22
 -- "tally slice under 3 words, or sizes at most 64 and cells don't fit"
 abbrev pub noRoom : List ℕ → Bool
-noRoom t = ltb (length t) head || (leb (size1 t) 64 && leb (size2 t) 64 && ltb (length t) (words (size1 t) (size2 t)))
+noRoom t = ltb (length t) head || (leb (size1 t) maxClass && leb (size2 t) maxClass && ltb (length t) (words (size1 t) (size2 t)))
 
 -- a cell is not above M, and not above the next in l1 and in l2
 abbrev pub fair : List ℕ → ℕ → ℕ → Bool
@@ -46,14 +51,14 @@ fair t l1 l2 =
 
 -- "sound when n1 and n2 are at most 64, M at most 100,000, no cell is above M, and no cell falls as l1 or l2 grows"
 abbrev pub isSound : List ℕ → Bool
-isSound t = leb (size1 t) 64 && leb (size2 t) 64 && leb (rounds t) 100000 && every (size1 t + 1) (λ l1. every (size2 t + 1) (λ l2. fair t l1 l2))
+isSound t = leb (size1 t) maxClass && leb (size2 t) maxClass && leb (rounds t) maxRounds && every (size1 t + 1) (λ l1. every (size2 t + 1) (λ l2. fair t l1 l2))
 
 -- what the test says
 pub record Sound (t : List ℕ) : Type 0 where
   -- n1 and n2 are at most 64, M at most 100,000
-  pub small1 : size1 t ≤ 64
-  pub small2 : size2 t ≤ 64
-  pub few : rounds t ≤ 100000
+  pub small1 : size1 t ≤ maxClass
+  pub small2 : size2 t ≤ maxClass
+  pub few : rounds t ≤ maxRounds
   -- no cell is above M, and none falls as l1 or l2 grows
   pub grows : Grows (size1 t) (size2 t) (rounds t) (cell t)
 

@@ -1,14 +1,25 @@
 // A tally's words, and whether it is sound.
 use answer::Done;
 use answer::Refusal;
+use limits::MAX_CLASS;
+use limits::MAX_ROUNDS;
 ghost use mathlib.Core.Path.{_≡_};
 ghost use Prim.Native.Nat.{_+_, _*_, _≤_, _<_};
 ghost use lib.ListN.{length};
+ghost use Rattle.limits.specs.Limits.{maxClass};
 ghost use Rattle.answer.specs.Outcome.{done};
 ghost use Rattle.soundness.specs.Tally.{risesBy, rowsRise, isFair, stateAnswer};
 
-// The words in front of the cells: n1, n2, M.
+// The words in front of the cells: n1, n2, M; and the place of M.
 pub const HEAD: usize = 3;
+
+pub const ROUNDS: usize = 2;
+
+// The words of the largest tally.
+pub const LARGEST: usize = HEAD + (MAX_CLASS + 1) * (MAX_CLASS + 1);
+
+// M of a tally that takes no more rounds.
+pub const FULL: u32 = MAX_ROUNDS as u32;
 
 // A word of a tally as a count or a place.
 pub fn wide(x: u32) -> usize
@@ -33,7 +44,7 @@ fn rises(cells: &[u32], at: usize, count: usize, step: usize) -> bool
 
 // Whether each cell is at most the next in its row.
 fn rows_rise(cells: &[u32], n1: usize, n2: usize) -> bool
-    requires { ⌜ (n1 ≤ 64) × (n2 ≤ 64) × ((n1 + 1) * (n2 + 1) ≤ length (now cells)) ⌝ }
+    requires { ⌜ (n1 ≤ maxClass) × (n2 ≤ maxClass) × ((n1 + 1) * (n2 + 1) ≤ length (now cells)) ⌝ }
     ensures { λ r. ⌜ r ≡ rowsRise (now (cells .entry)) n2 (n1 + 1) ⌝ }
 {
     let mut all = true;
@@ -49,7 +60,7 @@ fn rows_rise(cells: &[u32], n1: usize, n2: usize) -> bool
 
 // Whether the last cell is at most m, and no cell falls as l1 or l2 grows.
 fn is_fair(cells: &[u32], n1: usize, n2: usize, m: u32) -> bool
-    requires { ⌜ (n1 ≤ 64) × (n2 ≤ 64) × ((n1 + 1) * (n2 + 1) ≤ length (now cells)) ⌝ }
+    requires { ⌜ (n1 ≤ maxClass) × (n2 ≤ maxClass) × ((n1 + 1) * (n2 + 1) ≤ length (now cells)) ⌝ }
     ensures { λ r. ⌜ r ≡ isFair (now (cells .entry)) n1 n2 m ⌝ }
 {
     let w = n2 + 1;
@@ -66,16 +77,16 @@ pub fn check(tally: &[u32]) -> Done
     }
     let n1 = wide(tally[0]);
     let n2 = wide(tally[1]);
-    if (n1 > 64) | (n2 > 64) {
+    if (n1 > MAX_CLASS) | (n2 > MAX_CLASS) {
         return Done::Refused(Refusal::TallyUnsound);
     }
     if tally.len() < HEAD + (n1 + 1) * (n2 + 1) {
         return Done::Refused(Refusal::TallyShort);
     }
-    if tally[2] > 100000 {
+    if tally[ROUNDS] > FULL {
         return Done::Refused(Refusal::TallyUnsound);
     }
-    if !is_fair(&tally[HEAD..], n1, n2, tally[2]) {
+    if !is_fair(&tally[HEAD..], n1, n2, tally[ROUNDS]) {
         return Done::Refused(Refusal::TallyUnsound);
     }
     Done::Done

@@ -2,10 +2,11 @@
 use mathlib.Core.Path.{_≡_, refl, sym, _∙_, subst}
 use mathlib.Core.Logic.{⊎-elim}
 use mathlib.Core.List.{List, [], _∷_, _++_}
-use Prim.Native.Nat.{ℕ, zero, suc, _-_, _/_, _≤_, _<_}
+use Prim.Native.Nat.{ℕ, zero, suc, _-_, _/_, _≤_, _<_, _+_}
 use native.Mathlib.Omega.{arith}
 use lib.ListN.{length, getD, set, replicate, length-set, length-replicate}
 use lib.Seq.{getD-set-same}
+use Rattle.limits.specs.Limits.{maxNodes, arcCount, maxPosition}
 use Rattle.laws.specs.Tests.{T-ext, order as sides}
 use Rattle.laws.specs.Members.{any-out}
 use Rattle.laws.specs.Parts.{getD-same}
@@ -31,7 +32,7 @@ pub record Sweeping (f : Graph) (first more order label stack wait found : List 
   -- both ends are in
   pub begun : x ≤ start f
   -- the chains
-  pub chains : Chains (f .arcs) first more (length (f .arcs) / 2)
+  pub chains : Chains (f .arcs) first more (arcCount (f .arcs))
   -- room for them and on the stack
   pub room : Room (f .arcs) (f .entry) first more label stack
   -- the class 1 order
@@ -122,11 +123,11 @@ module _ {f : Graph} {first more order label stack wait found : List ℕ} {x nod
         }
 
 -- ---- the first turn: only the target has a label
-module _ {f : Graph} {first more order found : List ℕ} (l : Laid f) (o : ByOrder f order) (ch : Chains (f .arcs) first more (length (f .arcs) / 2))
-    (entry-first : length (f .entry) ≤ length first) (places : length (f .arcs) / 2 ≤ length more) (within : AllWithin (f .n1) (f .n2) (pathPairs (net f)))
-    (empty : found ≡ f .n1 ∷ f .n2 ∷ replicate 131 0) (x : ℕ) (is-x : x ≡ start f) (some : 0 < x) where
-  still : Still f (start f) (replicate 160 0) (replicate 66 0)
-  still = at-first l (omega arith) refl (omega arith) (λ v. getD-same 160 v 0) (λ c. getD-same 66 c 0)
+module _ {f : Graph} {first more order found : List ℕ} (l : Laid f) (o : ByOrder f order) (ch : Chains (f .arcs) first more (arcCount (f .arcs)))
+    (entry-first : length (f .entry) ≤ length first) (places : arcCount (f .arcs) ≤ length more) (within : AllWithin (f .n1) (f .n2) (pathPairs (net f)))
+    (empty : found ≡ f .n1 ∷ f .n2 ∷ replicate (longest - 2) 0) (x : ℕ) (is-x : x ≡ start f) (some : 0 < x) where
+  still : Still f (start f) (replicate maxNodes 0) (replicate (maxPosition + 1) 0)
+  still = at-first l (omega arith) refl (omega arith) (λ v. getD-same maxNodes v 0) (λ c. getD-same (maxPosition + 1) c 0)
 
   -- an end is shut
   shut : Height f x 0
@@ -135,17 +136,17 @@ module _ {f : Graph} {first more order found : List ℕ} (l : Laid f) (o : ByOrd
         let r = any-out (λ p. holdsAt p x b) (pathPairs (net f)) t in
         let h = holds-is (r .0) x b .0 (r .2) in
         let k : x ≤ f .n1 = omega (arith, within (r .0) (r .1)) in
-        omega (arith, at-rest (subst (λ i. Still f i (replicate 160 0) (replicate 66 0)) (sym is-x) still) k b .0 t, getD-same {A = ℕ} 160 (f .source) 0),
+        omega (arith, at-rest (subst (λ i. Still f i (replicate maxNodes 0) (replicate (maxPosition + 1) 0)) (sym is-x) still) k b .0 t, getD-same {A = ℕ} maxNodes (f .source) 0),
     λ h. absurd (omega arith),
   )
 
-  pub begins : (t y : ℕ) → f .target ≡ t → getD (f .cap) t 0 ≡ y → Sweeping f first more order (set (replicate 160 0) t y) (replicate 160 0) (replicate 66 0) found x t 0
+  pub begins : (t y : ℕ) → f .target ≡ t → getD (f .cap) t 0 ≡ y → Sweeping f first more order (set (replicate maxNodes 0) t y) (replicate maxNodes 0) (replicate (maxPosition + 1) 0) found x t 0
   begins t y is-t is-y =
-      let d : List ℕ = replicate 160 0 in
+      let d : List ℕ = replicate maxNodes 0 in
       let e : suc (x - 1) ≡ start f = omega arith in
-      let in-d : t < length d = omega (arith, is-t, l .t-in, l .few, length-replicate {A = ℕ} 160 0) in
+      let in-d : t < length d = omega (arith, is-t, l .t-in, l .few, length-replicate {A = ℕ} maxNodes 0) in
       let now : getD (set d t y) t 0 ≡ y = getD-set-same d t y 0 in-d in
-      let st : Still f (suc (x - 1)) d (replicate 66 0) = subst (λ i. Still f i d (replicate 66 0)) (sym e) still in
+      let st : Still f (suc (x - 1)) d (replicate (maxPosition + 1) 0) = subst (λ i. Still f i d (replicate (maxPosition + 1) 0)) (sym e) still in
       record {
         work = rw now (first-in st t y is-t is-y (sym e) (omega arith));
         some = some;

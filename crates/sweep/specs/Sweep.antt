@@ -5,6 +5,7 @@ use mathlib.Core.List.{List}
 use Prim.Native.Nat.{ℕ, suc, _-_, _/_, _≤_, _<_}
 use lib.Dec.{ltb}
 use lib.ListN.{length, getD}
+use Rattle.limits.specs.Limits.{arcCount}
 use Rattle.front.specs.Front.{holds, AllWithin}
 use Rattle.network.specs.Walk.{pathPairs}
 use Rattle.relax.specs.declared.Step.{Step}
@@ -35,11 +36,11 @@ pub record Sweepable (arcs entry cap first more order : List ℕ) (begin : Step)
   -- the class 1 order
   pub by-order : ByOrder (graphOf arcs entry cap begin) order
   -- the arcs into each node
-  pub chains : Chains arcs first more (length arcs / 2)
+  pub chains : Chains arcs first more (arcCount arcs)
   -- a head for every node
   pub heads : length entry ≤ length first
   -- a link for every arc
-  pub links : length arcs / 2 ≤ length more
+  pub links : arcCount arcs ≤ length more
   -- no path's pair is out of range
   pub within : AllWithin (begin .n1) (begin .n2) (pathPairs (net (graphOf arcs entry cap begin)))
   -- both ends are in at x, and at no larger one

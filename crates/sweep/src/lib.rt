@@ -3,6 +3,8 @@ use buffer::LONGEST;
 use front::Pair;
 use front::Pos1;
 use front::Pos2;
+use limits::MAX_NODES;
+use limits::MAX_POSITION;
 use relax::Step;
 use slices::wide;
 ghost use mathlib.Core.Path.{_≡_};
@@ -58,9 +60,9 @@ pub fn sweep(
     requires { ⌜ Sweepable (now arcs) (now entry) (now cap) (now first) (now more) (now order) begin ⌝ }
     ensures { λ r. ⌜ recordIn r ≡ frontBytes (begin .n1) (begin .n2) (pathPairs (net (graphOf (now (arcs .entry)) (now (entry .entry)) (now (cap .entry)) begin))) ⌝ }
 {
-    let mut label = [0u8; 160];
-    let mut stack = [0u8; 160];
-    let mut wait = [0u8; 66];
+    let mut label = [0u8; MAX_NODES];
+    let mut stack = [0u8; MAX_NODES];
+    let mut wait = [0u8; MAX_POSITION + 1];
     let mut found = buffer::empty(begin.n1, begin.n2);
     let t = wide(begin.node);
     label[t] = cap[t];

@@ -10,6 +10,7 @@ use lib.ListN.{length, getD, set, take, drop, length-drop}
 use lib.Seq.{drop-length, getD-drop, drop-drop, drop-set-lt}
 use borrow.Rule.Slice.PartMut.{putMid, post-is}
 use borrow.Author.Tests.{eqb-true, eq-eqb, ne-eqb}
+use Rattle.limits.specs.Limits.{maxRounds}
 use Rattle.laws.specs.Tests.{T-true, and-both}
 use Rattle.answer.specs.Outcome.{success, refused, outcome}
 use Rattle.answer.proofs.Outcomes.{outcome-refused, outcome-passed}
@@ -42,7 +43,7 @@ module _ (r t : List ℕ) where
   module _ (is : isRecord r ≡ true) where
     -- the tests of the tally, and then the last two
     abbrev last : List (ℕ × Bool)
-    last = (23, not (sameSizes r t)) ∷ (24, eqb (rounds t) 100000) ∷ []
+    last = (23, not (sameSizes r t)) ∷ (24, eqb (rounds t) maxRounds) ∷ []
 
     by-state : addAnswer r t ≡ outcome (stateTests t ++ last) (0 ∷ [])
     by-state = rw is
@@ -61,7 +62,7 @@ module _ (r t : List ℕ) where
       sound = state-sound t good
 
       -- no cell is above the largest M
-      cell-below : (i : ℕ) → i < (size1 t + 1) * width (size2 t) → getD (drop head t) i 0 ≤ 100000
+      cell-below : (i : ℕ) → i < (size1 t + 1) * width (size2 t) → getD (drop head t) i 0 ≤ maxRounds
       cell-below i h =
           let w = width (size2 t) in
           let e : i ≡ i / w * w + i % w = sym (div-add-mod' i w) in
@@ -76,8 +77,8 @@ module _ (r t : List ℕ) where
             let k = and-both (eqb (recordSize1 r) (size1 t)) (eqb (recordSize2 r) (size2 t)) same in
             (eqb-true (recordSize1 r) (size1 t) (k .0), eqb-true (recordSize2 r) (size2 t) (k .1))
 
-        pub add-full : rounds t ≡ 100000 → (refused 24 ≡ addAnswer r t) × (t ≡ addOut r t)
-        add-full e = let a : addAnswer r t ≡ refused 24 = rest ∙ rw (same, eq-eqb (rounds t) 100000 e) in (sym a, rw a)
+        pub add-full : rounds t ≡ maxRounds → (refused 24 ≡ addAnswer r t) × (t ≡ addOut r t)
+        add-full e = let a : addAnswer r t ≡ refused 24 = rest ∙ rw (same, eq-eqb (rounds t) maxRounds e) in (sym a, rw a)
 
         -- M is raised first; the cells are as they were
         cells-are : (m : ℕ) → drop head (set t 2 m) ≡ drop head t
@@ -94,7 +95,7 @@ module _ (r t : List ℕ) where
               below = cell-below;
             })
 
-        module _ (few : rounds t ≡ 100000 → ⊥) where
+        module _ (few : rounds t ≡ maxRounds → ⊥) where
           -- what the slice holds then
           out : (n1 n2 : ℕ) → n1 ≡ size1 t → n2 ≡ size2 t
               → take head (set t 2 (rounds t + 1)) ++ raisedCells r n1 n2 (drop head (set t 2 (rounds t + 1))) ≡ added r t ++ drop (length (added r t)) t
@@ -109,5 +110,5 @@ module _ (r t : List ℕ) where
 
           pub add-done : (success (0 ∷ []) ≡ addAnswer r t) × (take head (set t 2 (rounds t + 1)) ++ raisedCells r (recordSize1 r) (recordSize2 r) (drop head (set t 2 (rounds t + 1))) ≡ addOut r t)
           add-done =
-              let a : addAnswer r t ≡ success (0 ∷ []) = rest ∙ rw (same, ne-eqb (rounds t) 100000 few) in
+              let a : addAnswer r t ≡ success (0 ∷ []) = rest ∙ rw (same, ne-eqb (rounds t) maxRounds few) in
               (sym a, rw a (out (recordSize1 r) (recordSize2 r) (sizes .0) (sizes .1)))

@@ -7,6 +7,7 @@ use native.Mathlib.Nat.{mul-le-mul-right}
 use native.Mathlib.Omega.{arith}
 use lib.ListN.{length, getD, drop, length-append, length-drop}
 use lib.Seq.{getD-append-add, getD-drop}
+use Rattle.limits.specs.Limits.{maxRounds, maxClass}
 use Rattle.laws.specs.Tests.{T-true, T-ext}
 use Rattle.laws.specs.Members.{_∈_}
 use Rattle.front.specs.declared.Pair.{Pair}
@@ -49,7 +50,7 @@ module _ {r old : List ℕ} {n1 n2 : ℕ} (ok : Raisable old r n1 n2) where
   within2 : (p : Pair) → p ∈ listed r → p .p2 .0 ≤ n2 + 1
   within2 p m = omega (arith, good .form .within p m, ok .two)
 
-  pub small : (n1 ≤ 64) × (n2 ≤ 64)
+  pub small : (n1 ≤ maxClass) × (n2 ≤ maxClass)
   small = (omega (arith, good .small1, ok .one), omega (arith, good .small2, ok .two))
 
   pub raise-first : Raising r old old n1 n2 0 0 (n1 + 1)
@@ -90,7 +91,7 @@ module _ {r old : List ℕ} {n1 n2 : ℕ} (ok : Raisable old r n1 n2) where
         omega (arith, s .place, ok .room, mul-le-mul-right (width n2) h)
 
     -- the cells from this row on are as they were
-    pub later : (i : ℕ) → i < z → getD cells (at + (width n2 - z) + i) 0 ≤ 100000
+    pub later : (i : ℕ) → i < z → getD cells (at + (width n2 - z) + i) 0 ≤ maxRounds
     later i b =
         let k = width n2 - z + i in
         let h : l1 + 1 ≤ n1 + 1 = omega (arith, s .upto) in

@@ -9,6 +9,7 @@ use lib.Dec.{T, eqb, ltb}
 use lib.ListN.{length, getD, drop, length-append}
 use lib.Seq.{append-snoc, getD-append-add, length-front, length-take-le, drop-at}
 use borrow.Author.Tests.{ltb-false, eqb-false}
+use Rattle.limits.specs.Limits.{maxRounds, maxClass}
 use Rattle.laws.specs.Members.{any-out, any-in, here, there}
 use Rattle.answer.specs.Outcome.{Outcome, success, refused, filled}
 use Rattle.answer.proofs.Outcomes.{outcome-tests, outcome-values}
@@ -92,7 +93,7 @@ module _ (t₀ old : List ℕ) (n1 n2 : ℕ) (rs : List (List ℕ)) (c : ℕ →
   front-long : length front ≡ words n1 n2
   front-long = omega (arith, table-length (n1 + 1) (width n2) c)
 
-  pub tallied : n1 ≤ 64 → n2 ≤ 64 → length rs ≤ 100000 → words n1 n2 ≤ length t₀ → length old ≡ length t₀ → drop (words n1 n2) old ≡ drop (words n1 n2) t₀
+  pub tallied : n1 ≤ maxClass → n2 ≤ maxClass → length rs ≤ maxRounds → words n1 n2 ≤ length t₀ → length old ≡ length t₀ → drop (words n1 n2) old ≡ drop (words n1 n2) t₀
       → ((l1 l2 : ℕ) → l1 ≤ n1 → l2 ≤ n2 → c l1 l2 ≡ holding rs (n1 - l1) (n2 - l2)) → Tallies t₀ whole n1 n2 rs
   tallied h1 h2 h3 room long past counts =
       record {
@@ -125,7 +126,7 @@ module _ (t₀ old : List ℕ) (n1 n2 : ℕ) (rs : List (List ℕ)) (c : ℕ →
 pub new-tallies : (n1 n2 : ℕ) (t₀ : List ℕ) → newAnswer n1 n2 (length t₀) ≡ success (0 ∷ []) → Tallies t₀ (newOut n1 n2 t₀) n1 n2 []
 new-tallies n1 n2 t₀ e =
     let a = outcome-tests (newTests n1 n2 (length t₀)) (0 ∷ []) e in
-    let s = neither n1 n2 (a (6, ltb 64 n1 || ltb 64 n2) here) in
+    let s = neither n1 n2 (a (6, ltb maxClass n1 || ltb maxClass n2) here) in
     let room = ltb-false (length t₀) (words n1 n2) (a (21, ltb (length t₀) (words n1 n2)) (there here)) in
     rw e (tallied t₀ t₀ n1 n2 [] (λ l1 l2. 0) (s .0) (s .1) (omega arith) room refl refl (λ l1 l2 h k. refl))
 
@@ -141,10 +142,10 @@ add-tallies r {t₀} {t} {n1} {n2} {rs} s = go (addAnswer r t) refl
     shape a b m e f g = rw (e, f, g)
 
     -- not full
-    free : (v : List ℕ) → addAnswer r t ≡ success v → (rounds t ≡ 100000 → ⊥)
+    free : (v : List ℕ) → addAnswer r t ≡ success v → (rounds t ≡ maxRounds → ⊥)
     free v e =
         let z = outcome-values (addTests r t) (0 ∷ []) v e in
-        eqb-false (rounds t) 100000 (outcome-tests (addTests r t) (0 ∷ []) (e ∙ ap success (sym z)) (24, eqb (rounds t) 100000) (there (there (there (there here)))))
+        eqb-false (rounds t) maxRounds (outcome-tests (addTests r t) (0 ∷ []) (e ∙ ap success (sym z)) (24, eqb (rounds t) maxRounds) (there (there (there (there here)))))
 
     go : (a : Outcome) → addAnswer r t ≡ a → Tallies t₀ (filled a (added r t) t) n1 n2 (rs ++ cond (succeeds a) (r ∷ []) [])
     go (refused n) e = rw (append-nil rs) s

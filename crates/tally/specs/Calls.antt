@@ -5,6 +5,7 @@ use mathlib.Core.List.{List, [], _∷_, _++_}
 use Prim.Native.Nat.{ℕ, _+_, _-_, _*_, _≤_, _<_}
 use lib.Dec.{T, eqb, ltb}
 use lib.ListN.{length, getD, drop}
+use Rattle.limits.specs.Limits.{maxRounds, maxClass}
 use Rattle.answer.specs.Outcome.{Outcome, outcome, filled}
 use Rattle.record.specs.Record.{isRecord, recordHolds, size1 as recordSize1, size2 as recordSize2}
 use Rattle.soundness.specs.Tally.{size1, size2, rounds, width, words, cell, noRoom, isSound}
@@ -12,7 +13,7 @@ use Rattle.tally.specs.Cells.{table, tallyOf}
 
 -- ---- NEW (6, 21)
 abbrev pub newTests : ℕ → ℕ → ℕ → List (ℕ × Bool)
-newTests n1 n2 room = (6, ltb 64 n1 || ltb 64 n2) ∷ (21, ltb room (words n1 n2)) ∷ []
+newTests n1 n2 room = (6, ltb maxClass n1 || ltb maxClass n2) ∷ (21, ltb room (words n1 n2)) ∷ []
 
 abbrev pub newAnswer : ℕ → ℕ → ℕ → Outcome
 newAnswer n1 n2 room = outcome (newTests n1 n2 room) (0 ∷ [])
@@ -26,7 +27,7 @@ abbrev pub sameSizes : List ℕ → List ℕ → Bool
 sameSizes r t = eqb (recordSize1 r) (size1 t) && eqb (recordSize2 r) (size2 t)
 
 abbrev pub addTests : List ℕ → List ℕ → List (ℕ × Bool)
-addTests r t = (12, not (isRecord r)) ∷ (21, noRoom t) ∷ (22, not (isSound t)) ∷ (23, not (sameSizes r t)) ∷ (24, eqb (rounds t) 100000) ∷ []
+addTests r t = (12, not (isRecord r)) ∷ (21, noRoom t) ∷ (22, not (isSound t)) ∷ (23, not (sameSizes r t)) ∷ (24, eqb (rounds t) maxRounds) ∷ []
 
 abbrev pub addAnswer : List ℕ → List ℕ → Outcome
 addAnswer r t = outcome (addTests r t) (0 ∷ [])
@@ -49,7 +50,7 @@ pub record Raisable (cells r : List ℕ) (n1 n2 : ℕ) : Type 0 where
   -- room for every cell
   pub room : (n1 + 1) * width n2 ≤ length cells
   -- no cell above the largest M
-  pub below : (i : ℕ) → i < (n1 + 1) * width n2 → getD cells i 0 ≤ 100000
+  pub below : (i : ℕ) → i < (n1 + 1) * width n2 → getD cells i 0 ≤ maxRounds
 
 -- M and each cell where the record holds raised by 1
 abbrev pub added : List ℕ → List ℕ → List ℕ

@@ -2,13 +2,18 @@
 use answer::Done;
 use answer::Refusal;
 use front::Pos2;
+use limits::MAX_CLASS;
+use limits::MAX_POSITION;
+use soundness::FULL;
 use soundness::HEAD;
+use soundness::ROUNDS;
 ghost use mathlib.Core.Path.{_≡_};
 ghost use mathlib.Core.Bool.{true};
 ghost use mathlib.Core.List.{[], _∷_, _++_};
 ghost use Prim.Native.Nat.{ℕ, _+_, _*_, _≤_, _<_, max};
 ghost use lib.Dec.{T};
 ghost use lib.ListN.{length, getD, set, drop, replicate};
+ghost use Rattle.limits.specs.Limits.{maxRounds, maxPosition};
 ghost use Rattle.answer.specs.Outcome.{success, done};
 ghost use Rattle.record.specs.Record.{listed, isRecord};
 ghost use Rattle.soundness.specs.Tally.{head, rounds, stateAnswer};
@@ -35,7 +40,7 @@ pub fn new(n1: u32, n2: u32, tally: &mut [u32]) -> Done
 {
     let a = soundness::wide(n1);
     let b = soundness::wide(n2);
-    if (a > 64) | (b > 64) {
+    if (a > MAX_CLASS) | (b > MAX_CLASS) {
         return Done::Refused(Refusal::ClassSize);
     }
     let n = HEAD + (a + 1) * (b + 1);
@@ -51,7 +56,7 @@ pub fn new(n1: u32, n2: u32, tally: &mut [u32]) -> Done
 // ---- add
 // 1 more in each of n cells from a place on.
 fn bump(cells: &mut [u32], from: usize, n: usize)
-    requires { ⌜ (from + n ≤ length (now cells)) × ((i : ℕ) → i < n → getD (now cells) (from + i) 0 ≤ 100000) ⌝ }
+    requires { ⌜ (from + n ≤ length (now cells)) × ((i : ℕ) → i < n → getD (now cells) (from + i) 0 ≤ maxRounds) ⌝ }
     ensures { λ _. ⌜ now (cells .exit) ≡ bumped (now (cells .entry)) from n ⌝ }
 {
     let mut i = 0;
@@ -68,11 +73,11 @@ fn larger(x: Pos2, y: Pos2) -> Pos2
 }
 
 // For each p1 the largest p2 of the record's pairs, or 0.
-fn heights(record: &[u8]) -> [u8; 66]
+fn heights(record: &[u8]) -> [u8; MAX_POSITION + 1]
     requires { ⌜ T (isRecord (now «record»)) ⌝ }
-    ensures { λ r. ⌜ (length r ≡ 66) × ((x : ℕ) → x < 66 → getD r x 0 ≡ peakAt (listed (now («record» .entry))) x) ⌝ }
+    ensures { λ r. ⌜ (length r ≡ maxPosition + 1) × ((x : ℕ) → x < maxPosition + 1 → getD r x 0 ≡ peakAt (listed (now («record» .entry))) x) ⌝ }
 {
-    let mut heights = [0u8; 66];
+    let mut heights = [0u8; MAX_POSITION + 1];
     let k = record::read_head(record).k;
     let mut i: u8 = 0;
     while i < k {
@@ -117,10 +122,10 @@ fn same_sizes(record: &[u8], tally: &[u32]) -> bool
 
 // One round more.
 fn count_round(tally: &mut [u32])
-    requires { ⌜ (head ≤ length (now tally)) × (rounds (now tally) ≤ 100000) ⌝ }
+    requires { ⌜ (head ≤ length (now tally)) × (rounds (now tally) ≤ maxRounds) ⌝ }
     ensures { λ _. ⌜ now (tally .exit) ≡ set (now (tally .entry)) 2 (rounds (now (tally .entry)) + 1) ⌝ }
 {
-    tally[2] += 1;
+    tally[ROUNDS] += 1;
 }
 
 // Adds a front record to a sound tally: numbers 23 and 24.
@@ -132,7 +137,7 @@ fn add_to(record: &[u8], tally: &mut [u32]) -> Done
     if !same_sizes(record, tally) {
         return Done::Refused(Refusal::TallySizes);
     }
-    if tally[2] == 100000 {
+    if tally[ROUNDS] == FULL {
         return Done::Refused(Refusal::TallyFull);
     }
     count_round(tally);

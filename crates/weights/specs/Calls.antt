@@ -4,12 +4,13 @@ use mathlib.Core.List.{List, [], _∷_}
 use Prim.Native.Nat.{ℕ, _+_, _-_, _*_}
 use lib.Dec.{ltb}
 use lib.ListN.{length}
+use Rattle.limits.specs.Limits.{maxClass}
 use Rattle.answer.specs.Outcome.{Outcome, outcome, filled}
 use Rattle.chance.specs.Chance.{weights}
 
 -- WEIGHTS for n nodes of chance p (6, 14, 15)
 abbrev pub weightsTests : ℕ → ℕ → ℕ → List (ℕ × Bool)
-weightsTests n p room = (6, ltb 64 n) ∷ (14, ltb 1000000 p) ∷ (15, ltb room (n + 1)) ∷ []
+weightsTests n p room = (6, ltb maxClass n) ∷ (14, ltb 1000000 p) ∷ (15, ltb room (n + 1)) ∷ []
 
 abbrev pub weightsAnswer : ℕ → ℕ → ℕ → Outcome
 weightsAnswer n p room = outcome (weightsTests n p room) (0 ∷ [])

@@ -2,6 +2,7 @@
 use answer::Aged;
 use answer::Done;
 use answer::Refusal;
+use limits::MAX_CLASS;
 ghost use mathlib.Core.Path.{_≡_};
 ghost use mathlib.Core.List.{_++_};
 ghost use Prim.Native.Nat.{ℕ, _+_, _≤_, _<_};
@@ -11,6 +12,9 @@ ghost use Rattle.chance.specs.Chance.{sends, spread, weights};
 ghost use Rattle.weights.specs.Calls.{weightsAnswer, weightsOut, ageingAnswer};
 
 // ---- weights
+// The largest number of nodes.
+const MOST: u32 = MAX_CLASS as u32;
+
 // What the weight w sends on at the chance p.
 fn share(p: u32, w: u32) -> u32
     requires { ⌜ p ≤ 1000000 ⌝ }
@@ -54,7 +58,7 @@ pub fn weights(n: u32, p: u32, out: &mut [u32]) -> Done
     ensures answer { λ r. ⌜ done r ≡ weightsAnswer n p (length (now (out .entry))) ⌝ }
     ensures slice { λ _. ⌜ now (out .exit) ≡ weightsOut n p (now (out .entry)) ⌝ }
 {
-    if n > 64 {
+    if n > MOST {
         return Done::Refused(Refusal::ClassSize);
     }
     if p > 1000000 {

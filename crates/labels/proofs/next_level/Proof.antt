@@ -5,12 +5,13 @@ use native.Mathlib.Omega.{arith}
 use lib.ListN.{getD}
 use borrow.Author.Needs.{needs}
 use borrow.Author.Tests.{leb-true, leb-false, not-true, not-false}
+use Rattle.limits.specs.Limits.{maxPosition}
 use Rattle.labels.proofs.Drains.{Seeking, sought, sought-none, seek-on}
 use Rattle.labels.proofs.next_level.Statement.{statement}
 use Rattle.labels.proofs.next_level.Tie as tie
 
 abbrev Inv-loop : tie.InvT-loop
-Inv-loop wait floor done m₀ m = Seeking wait done m × (done ≤ 65)
+Inv-loop wait floor done m₀ m = Seeking wait done m × (done ≤ maxPosition)
 
 abbrev μ-loop : tie.MeasureT-loop
 μ-loop wait floor done m₀ m = m

@@ -5,16 +5,17 @@ use Prim.Native.Nat.{_-_, _/_, _≤_}
 use native.Mathlib.Omega.{arith}
 use borrow.Author.Needs.{needs}
 use lib.ListN.{length}
+use Rattle.limits.specs.Limits.{arcCount}
 use Rattle.parts.specs.Tests.{badArc, badArcs}
 use Rattle.parts.proofs.Scans.{anyArc, arc-next, arc-end}
 use Rattle.parts.proofs.bad_arcs.Statement.{statement}
 use Rattle.parts.proofs.bad_arcs.Tie as tie
 
 abbrev Inv-loop : tie.InvT-loop
-Inv-loop n arcs bad₀ i₀ bad i = (i ≤ length arcs / 2) × (badArcs n arcs ≡ (bad || anyArc (badArc n) arcs i))
+Inv-loop n arcs bad₀ i₀ bad i = (i ≤ arcCount arcs) × (badArcs n arcs ≡ (bad || anyArc (badArc n) arcs i))
 
 abbrev μ-loop : tie.MeasureT-loop
-μ-loop n arcs bad₀ i₀ bad i = length arcs / 2 - i
+μ-loop n arcs bad₀ i₀ bad i = arcCount arcs - i
 
 loop-holds : tie.Need-loop-holds Inv-loop μ-loop
 loop-holds c = (omega arith, refl)

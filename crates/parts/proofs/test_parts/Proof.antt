@@ -3,13 +3,14 @@ use mathlib.Core.Path.{_≡_, sym, ap₂, _∙_}
 use mathlib.Core.Bool.{false, _||_, not}
 use borrow.Author.Needs.{needs}
 use lib.Dec.{eqb, ltb}
+use Rattle.limits.specs.Limits.{maxClass}
 use Rattle.parts.specs.Tests.{badClasses, badSizes, badEndClasses}
 use Rattle.parts.proofs.test_parts.Statement.{statement}
 use Rattle.parts.proofs.test_parts.Tie as tie
 
 -- what the tests found, as the definitions have it
-six : (c : tie.Else1) → let a = c .before .before .before .before .args in (ltb 64 (a .n1) || ltb 64 (a .n2)) ≡ badSizes (a .nodes .now)
-six c = ap₂ (λ n m. ltb 64 n || ltb 64 m) (c .before .before .before .before .pre .1 .0) (c .before .before .before .before .pre .1 .1)
+six : (c : tie.Else1) → let a = c .before .before .before .before .args in (ltb maxClass (a .n1) || ltb maxClass (a .n2)) ≡ badSizes (a .nodes .now)
+six c = ap₂ (λ n m. ltb maxClass n || ltb maxClass m) (c .before .before .before .before .pre .1 .0) (c .before .before .before .before .pre .1 .1)
 
 seven : (c : tie.After-byte2) → let a = c .before .before .before .before .before .before .before .args in (not (eqb (c .before .byte .result) 0) || not (eqb (c .byte2 .result) 0)) ≡ badEndClasses (a .nodes .now) (a .source) (a .target)
 seven c = ap₂ (λ x y. not (eqb x 0) || not (eqb y 0)) (c .before .byte .ensures) (c .byte2 .ensures)

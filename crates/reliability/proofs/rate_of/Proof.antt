@@ -5,6 +5,7 @@ use Prim.Native.Nat.{_+_}
 use native.Mathlib.Omega.{arith}
 use lib.ListN.{drop, replicate, length-drop}
 use borrow.Author.Needs.{needs}
+use Rattle.limits.specs.Limits.{maxClass}
 use Rattle.laws.specs.Parts.{tail-part}
 use Rattle.chance.specs.Chance.{weights, rateR}
 use Rattle.soundness.specs.Tally.{head, size1, size2, rounds}
@@ -14,10 +15,10 @@ use Rattle.reliability.proofs.rate_of.Statement.{statement}
 use Rattle.reliability.proofs.rate_of.Tie as tie
 
 -- the slices of weights
-u-filled : (c : tie.After-fill) → let a = c .before .before .before .before .before .args in c .fill .last .1 .1 .0 ≡ weights (a .p1) (size1 (a .tally .now)) ++ drop (size1 (a .tally .now) + 1) (replicate 65 0)
+u-filled : (c : tie.After-fill) → let a = c .before .before .before .before .before .args in c .fill .last .1 .1 .0 ≡ weights (a .p1) (size1 (a .tally .now)) ++ drop (size1 (a .tally .now) + 1) (replicate (maxClass + 1) 0)
 u-filled c = c .fill .ensures
 
-v-filled : (c : tie.After-fill2) → let a = c .before .before .before .before .before .before .before .before .args in c .fill2 .last .1 .1 .0 ≡ weights (a .p2) (size2 (a .tally .now)) ++ drop (size2 (a .tally .now) + 1) (replicate 65 0)
+v-filled : (c : tie.After-fill2) → let a = c .before .before .before .before .before .before .before .before .args in c .fill2 .last .1 .1 .0 ≡ weights (a .p2) (size2 (a .tally .now)) ++ drop (size2 (a .tally .now) + 1) (replicate (maxClass + 1) 0)
 v-filled c = c .fill2 .ensures
 
 shared-slice-read-n1 : tie.Need-shared-slice-read-n1
@@ -68,12 +69,12 @@ total-requires c κs =
       g .small1,
       g .small2,
       omega (arith, state-room t (s .pre .fine), length-drop head t),
-      filled-long (s .args .p1) (size1 t) (drop (size1 t + 1) (replicate 65 0)) (c .before .before .before .before .before .before .before .fill .last .1 .1 .0) (u-filled (c .before .before .before .before .before .before .before)),
-      filled-long (s .args .p2) (size2 t) (drop (size2 t + 1) (replicate 65 0)) (c .before .before .before .before .fill2 .last .1 .1 .0) (v-filled (c .before .before .before .before)),
+      filled-long (s .args .p1) (size1 t) (drop (size1 t + 1) (replicate (maxClass + 1) 0)) (c .before .before .before .before .before .before .before .fill .last .1 .1 .0) (u-filled (c .before .before .before .before .before .before .before)),
+      filled-long (s .args .p2) (size2 t) (drop (size2 t + 1) (replicate (maxClass + 1) 0)) (c .before .before .before .before .fill2 .last .1 .1 .0) (v-filled (c .before .before .before .before)),
       row-fits (s .args .tally .now) (s .pre .fine) (s .args .p1) (s .args .p2) (s .pre .ok1) (s .pre .ok2)
-          (drop (size1 t + 1) (replicate 65 0)) (c .before .before .before .before .before .before .before .fill .last .1 .1 .0) (u-filled (c .before .before .before .before .before .before .before)) (drop (size2 t + 1) (replicate 65 0)) (c .before .before .before .before .fill2 .last .1 .1 .0) (v-filled (c .before .before .before .before)),
+          (drop (size1 t + 1) (replicate (maxClass + 1) 0)) (c .before .before .before .before .before .before .before .fill .last .1 .1 .0) (u-filled (c .before .before .before .before .before .before .before)) (drop (size2 t + 1) (replicate (maxClass + 1) 0)) (c .before .before .before .before .fill2 .last .1 .1 .0) (v-filled (c .before .before .before .before)),
       rows-fit (s .args .tally .now) (s .pre .fine) (s .args .p1) (s .args .p2) (s .pre .ok1) (s .pre .ok2)
-          (drop (size1 t + 1) (replicate 65 0)) (c .before .before .before .before .before .before .before .fill .last .1 .1 .0) (u-filled (c .before .before .before .before .before .before .before)) (drop (size2 t + 1) (replicate 65 0)) (c .before .before .before .before .fill2 .last .1 .1 .0) (v-filled (c .before .before .before .before)),
+          (drop (size1 t + 1) (replicate (maxClass + 1) 0)) (c .before .before .before .before .before .before .before .fill .last .1 .1 .0) (u-filled (c .before .before .before .before .before .before .before)) (drop (size2 t + 1) (replicate (maxClass + 1) 0)) (c .before .before .before .before .fill2 .last .1 .1 .0) (v-filled (c .before .before .before .before)),
     )
 
 shared-slice-read-m : tie.Need-shared-slice-read-m
@@ -93,7 +94,7 @@ returns c =
     let s = c .before .before .before .before .before .before .before .before .before .before .before .before .before .before in
     let t = s .args .tally .now in
     let e = (rw (tail-part t head) at (c .before .total .ensures)) ∙ rows-sum (s .args .tally .now) (s .pre .fine) (s .args .p1) (s .args .p2) (s .pre .ok1) (s .pre .ok2)
-    (drop (size1 t + 1) (replicate 65 0)) (c .before .before .before .before .before .before .before .before .before .fill .last .1 .1 .0) (u-filled (c .before .before .before .before .before .before .before .before .before)) (drop (size2 t + 1) (replicate 65 0)) (c .before .before .before .before .before .before .fill2 .last .1 .1 .0) (v-filled (c .before .before .before .before .before .before)) in
+    (drop (size1 t + 1) (replicate (maxClass + 1) 0)) (c .before .before .before .before .before .before .before .before .before .fill .last .1 .1 .0) (u-filled (c .before .before .before .before .before .before .before .before .before)) (drop (size2 t + 1) (replicate (maxClass + 1) 0)) (c .before .before .before .before .before .before .fill2 .last .1 .1 .0) (v-filled (c .before .before .before .before .before .before)) in
     (e, refl, ap (λ x. rateR x (rounds t)) e)
 
 pub rate-of-spec : {M : Type 1} → statement M

@@ -5,6 +5,7 @@ use native.Mathlib.Nat.{mul-le-mul-right}
 use native.Mathlib.Omega.{arith}
 use lib.ListN.{getD}
 use borrow.Author.Needs.{needs}
+use Rattle.limits.specs.Limits.{maxClass}
 use Rattle.soundness.specs.Tally.{width}
 use Rattle.reliability.specs.Calls.{rowSum, rowsSum}
 use Rattle.reliability.proofs.Sums.{sum-more, part-fits}
@@ -61,7 +62,7 @@ add-at : tie.Need-add-at Inv-loop μ-loop
 add-at c =
     let s = c .before .before .before .before .before .before .before in
     let l = c .before .before .before .loop in
-    let h : l .l1 ≤ 64 = omega (arith, s .pre .0) in
+    let h : l .l1 ≤ maxClass = omega (arith, s .pre .0) in
     omega (arith, l .inv .1, l .inv .3, s .pre .1, mul-le-mul-right (s .args .n2 + 1) h)
 
 add-l1 : tie.Need-add-l1 Inv-loop μ-loop

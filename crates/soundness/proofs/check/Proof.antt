@@ -8,6 +8,7 @@ use lib.Dec.{ltb}
 use lib.ListN.{length, length-drop}
 use borrow.Author.Tests.{not-true, not-false}
 use borrow.Author.Needs.{needs}
+use Rattle.limits.specs.Limits.{maxClass}
 use Rattle.laws.specs.Parts.{tail-part}
 use Rattle.soundness.specs.Tally.{head, size1, size2, words}
 use Rattle.soundness.proofs.States.{too-short, too-large, sizes, no-cells, too-many, unfair, good}
@@ -18,18 +19,18 @@ use Rattle.soundness.proofs.check.Tie as tie
 both-are : (c : tie.After-wide2) → let t = c .before .before .before .before .before .before .args .tally .now in (c .before .before .wide .result ≡ size1 t) × (c .wide2 .result ≡ size2 t)
 both-are c = (c .before .before .wide .ensures .0, c .wide2 .ensures .0)
 
-small : (c : tie.Else2) → let t = c .before .before .before .before .before .before .before .args .tally .now in ltb 64 (size1 t) || ltb 64 (size2 t) ≡ false
+small : (c : tie.Else2) → let t = c .before .before .before .before .before .before .before .args .tally .now in ltb maxClass (size1 t) || ltb maxClass (size2 t) ≡ false
 small c = let e = both-are (c .before) in rw (e .0, e .1) at (c .if2 .left)
 
-few : (c : tie.Else2) → let t = c .before .before .before .before .before .before .before .args .tally .now in (size1 t ≤ 64) × (size2 t ≤ 64)
+few : (c : tie.Else2) → let t = c .before .before .before .before .before .before .before .args .tally .now in (size1 t ≤ maxClass) × (size2 t ≤ maxClass)
 few c = sizes (c .before .before .before .before .before .before .before .args .tally .now) (c .before .before .before .before .before .if1 .left) (small c)
 
-product : (c : tie.Else2) → (c .before .before .before .wide .result + 1) * (c .before .wide2 .result + 1) ≤ 65 * 65
+product : (c : tie.Else2) → (c .before .before .before .wide .result + 1) * (c .before .wide2 .result + 1) ≤ (maxClass + 1) * (maxClass + 1)
 product c =
     let e = both-are (c .before) in
     let f = few c in
-    let h : c .before .before .before .wide .result + 1 ≤ 65 = omega (arith, e .0, f .0) in
-    let k : c .before .wide2 .result + 1 ≤ 65 = omega (arith, e .1, f .1) in
+    let h : c .before .before .before .wide .result + 1 ≤ maxClass + 1 = omega (arith, e .0, f .0) in
+    let k : c .before .wide2 .result + 1 ≤ maxClass + 1 = omega (arith, e .1, f .1) in
     mul-le-mul h k
 
 room : (c : tie.Else3) → let t = c .before .before .before .before .before .before .before .before .args .tally .now in words (size1 t) (size2 t) ≤ length t

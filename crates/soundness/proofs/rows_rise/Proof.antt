@@ -5,6 +5,7 @@ use Prim.Native.Nat.{_+_, _-_, _*_, _≤_}
 use native.Mathlib.Nat.{mul-le-mul-right}
 use native.Mathlib.Omega.{arith}
 use borrow.Author.Needs.{needs}
+use Rattle.limits.specs.Limits.{maxClass}
 use Rattle.laws.specs.Every.{every, every-next}
 use Rattle.soundness.specs.Tally.{risesBy}
 use Rattle.soundness.proofs.rows_rise.Statement.{statement}
@@ -33,7 +34,7 @@ add-at-2 : tie.Need-add-at-2 Inv-loop μ-loop
 add-at-2 c =
     let s = c .before .before .before .before in
     let l = c .before .before .loop in
-    let h : l .l1 ≤ 64 = omega (arith, s .pre .0) in
+    let h : l .l1 ≤ maxClass = omega (arith, s .pre .0) in
     omega (arith, l .inv .1, s .pre .1, mul-le-mul-right (s .args .n2 + 1) h)
 
 add-l1 : tie.Need-add-l1 Inv-loop μ-loop

@@ -1,15 +1,17 @@
 -- `sweep::sweep` goes down from x to x: what is collected, and what lies below x, hold where the network does.
 use mathlib.Core.Path.{_≡_, refl}
+use Prim.Native.Nat.{_+_}
 use native.Mathlib.Omega.{arith}
 use lib.ListN.{replicate, length, getD, length-set}
 use borrow.Author.Needs.{needs}
+use Rattle.limits.specs.Limits.{maxNodes, maxPosition}
 use Rattle.relax.specs.State.{graphOf}
 use Rattle.sweep.proofs.Turns.{Sweeping, begins, puttable, collected, ended, onward}
 use Rattle.sweep.proofs.sweep.Statement.{statement}
 use Rattle.sweep.proofs.sweep.Tie as tie
 
 abbrev Inv-loop : tie.InvT-loop
-Inv-loop arcs entry cap first more order begin label₀ stack₀ wait₀ found₀ t x₀ node₀ last₀ label stack wait found x node last = Sweeping (graphOf arcs entry cap begin) first more order label stack wait found x node (last .0) × (length label ≡ 160) × (length stack ≡ 160) × (length wait ≡ 66)
+Inv-loop arcs entry cap first more order begin label₀ stack₀ wait₀ found₀ t x₀ node₀ last₀ label stack wait found x node last = Sweeping (graphOf arcs entry cap begin) first more order label stack wait found x node (last .0) × (length label ≡ maxNodes) × (length stack ≡ maxNodes) × (length wait ≡ maxPosition + 1)
 
 abbrev μ-loop : tie.MeasureT-loop
 μ-loop arcs entry cap first more order begin label₀ stack₀ wait₀ found₀ t x₀ node₀ last₀ label stack wait found x node last = x
@@ -33,7 +35,7 @@ loop-holds c =
     let b = s .args .begin in
     let y = getD (s .args .cap .now) (b .node) 0 in
     rw (c .before .wide .ensures .0)
-    (begins (p .laid) (p .by-order) (p .chains) (p .heads) (p .links) (p .within) (c .before .before .empty .ensures) (b .x .0) (p .begins) (p .some) (b .node) y (p .enters) refl, length-set (replicate 160 0) (b .node) y, refl, refl)
+    (begins (p .laid) (p .by-order) (p .chains) (p .heads) (p .links) (p .within) (c .before .before .empty .ensures) (b .x .0) (p .begins) (p .some) (b .node) y (p .enters) refl, length-set (replicate maxNodes 0) (b .node) y, refl, refl)
 
 wide-requires-2 : tie.Need-wide-requires-2 Inv-loop μ-loop
 wide-requires-2 c κs = search needs

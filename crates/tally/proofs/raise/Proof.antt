@@ -1,9 +1,10 @@
 -- `tally::raise` raises a row a turn.
 use mathlib.Core.Path.{_≡_, ap, _∙_}
-use Prim.Native.Nat.{ℕ, _<_, max}
+use Prim.Native.Nat.{ℕ, _<_, max, _+_}
 use native.Mathlib.Omega.{arith}
 use lib.ListN.{length, getD}
 use borrow.Author.Needs.{needs}
+use Rattle.limits.specs.Limits.{maxPosition}
 use Rattle.record.specs.Record.{listed}
 use Rattle.soundness.specs.Tally.{width}
 use Rattle.tally.specs.Cells.{peakAt}
@@ -12,7 +13,7 @@ use Rattle.tally.proofs.raise.Statement.{statement}
 use Rattle.tally.proofs.raise.Tie as tie
 
 abbrev Inv-loop : tie.InvT-loop
-Inv-loop cells₀ «record» n1 n2 top w y₀ at₀ x₀ cells y at x = Raising «record» cells₀ cells n1 n2 (y .0) at x × (w ≡ width n2) × ((i : ℕ) → i < 66 → getD top i 0 ≡ peakAt (listed «record») i) × (length top ≡ 66)
+Inv-loop cells₀ «record» n1 n2 top w y₀ at₀ x₀ cells y at x = Raising «record» cells₀ cells n1 n2 (y .0) at x × (w ≡ width n2) × ((i : ℕ) → i < maxPosition + 1 → getD top i 0 ≡ peakAt (listed «record») i) × (length top ≡ maxPosition + 1)
 
 abbrev μ-loop : tie.MeasureT-loop
 μ-loop cells₀ «record» n1 n2 top w y₀ at₀ x₀ cells y at x = x

@@ -6,18 +6,19 @@ use native.Mathlib.Omega.{arith}
 use lib.ListN.{length, drop}
 use borrow.Author.Tests.{lt-ltb, le-ltb}
 use borrow.Author.Needs.{needs}
+use Rattle.limits.specs.Limits.{maxClass}
 use Rattle.chance.specs.Chance.{weights}
 use Rattle.chance.proofs.Weights.{weights-length}
 use Rattle.weights.proofs.weights.Statement.{statement}
 use Rattle.weights.proofs.weights.Tie as tie
 
 returns : tie.Need-returns
-returns c = let e = lt-ltb 64 (c .before .before .args .n) (c .if1 .taken) in (rw e, rw e)
+returns c = let e = lt-ltb maxClass (c .before .before .args .n) (c .if1 .taken) in (rw e, rw e)
 
 returns-2 : tie.Need-returns-2
 returns-2 c =
     let a = c .before .before .before .args in
-    let e = le-ltb 64 (a .n) (c .before .if1 .left) in
+    let e = le-ltb maxClass (a .n) (c .before .if1 .left) in
     let f = lt-ltb 1000000 (a .p) (c .if2 .taken) in
     (rw (e, f), rw (e, f))
 
@@ -27,7 +28,7 @@ add-if3 c = search needs
 returns-3 : tie.Need-returns-3
 returns-3 c =
     let a = c .before .before .before .before .args in
-    let e = le-ltb 64 (a .n) (c .before .before .if1 .left) in
+    let e = le-ltb maxClass (a .n) (c .before .before .if1 .left) in
     let f = le-ltb 1000000 (a .p) (c .before .if2 .left) in
     let g = lt-ltb (length (a .out .now)) (a .n + 1) (c .if3 .taken) in
     (rw (e, f, g), rw (e, f, g))
@@ -41,7 +42,7 @@ same-length c = search needs
 returns-4 : tie.Need-returns-4
 returns-4 c =
     let a = c .before .before .before .before .before .before .before .before .args in
-    let e = le-ltb 64 (a .n) (c .before .before .before .before .before .before .if1 .left) in
+    let e = le-ltb maxClass (a .n) (c .before .before .before .before .before .before .if1 .left) in
     let f = le-ltb 1000000 (a .p) (c .before .before .before .before .before .if2 .left) in
     let g = le-ltb (length (a .out .now)) (a .n + 1) (c .before .before .before .before .if3 .left) in
     let k : length (weights (a .p) (a .n)) ≡ a .n + 1 = omega (arith, weights-length (a .p) (a .n)) in
