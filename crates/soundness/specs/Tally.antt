@@ -9,9 +9,12 @@ use Rattle.laws.specs.Every.{every}
 use Rattle.answer.specs.Outcome.{Outcome, outcome}
 use Rattle.chance.specs.Chance.{Grows}
 
--- how many words stand in front of the cells
+-- how many words stand in front of the cells, and the place of M
 abbrev pub head : ℕ
 head = 3
+
+abbrev pub roundsAt : ℕ
+roundsAt = 2
 
 -- n1, n2 and M
 abbrev pub size1 : List ℕ → ℕ
@@ -21,7 +24,7 @@ abbrev pub size2 : List ℕ → ℕ
 size2 t = getD t 1 0
 
 abbrev pub rounds : List ℕ → ℕ
-rounds t = getD t 2 0
+rounds t = getD t roundsAt 0
 
 -- the words of a row of cells, and of a whole tally
 abbrev pub width : ℕ → ℕ

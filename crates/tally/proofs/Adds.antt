@@ -1,7 +1,7 @@
 -- What `add` answers and leaves, as the code comes to it.
 use mathlib.Core.Path.{_≡_, refl, sym, ap, ap₂, _∙_}
 use mathlib.Core.Bool.{Bool, true, false, not}
-use mathlib.Core.List.{List, [], _∷_, _++_, append-nil}
+use mathlib.Core.List.{List, [], _∷_, _++_, append-nil, append-assoc}
 use Prim.Native.Nat.{ℕ, zero, suc, _+_, _-_, _*_, _/_, _%_, _≤_, _<_}
 use native.Mathlib.Nat.{div-add-mod', mod-lt, div-lt-iff-lt-mul}
 use native.Mathlib.Omega.{arith}
@@ -15,11 +15,12 @@ use Rattle.laws.specs.Tests.{T-true, and-both}
 use Rattle.answer.specs.Outcome.{success, refused, outcome}
 use Rattle.answer.proofs.Outcomes.{outcome-refused, outcome-passed}
 use Rattle.record.specs.Record.{isRecord, size1 as recordSize1, size2 as recordSize2}
-use Rattle.soundness.specs.Tally.{head, size1, size2, rounds, width, cell, Sound, stateTests, stateAnswer}
-use Rattle.tally.specs.Cells.{table}
+use Rattle.soundness.specs.Tally.{head, roundsAt, size1, size2, rounds, width, cell, Sound, stateTests, stateAnswer}
+use Rattle.tally.specs.Cells.{table, heading}
 use Rattle.tally.specs.Calls.{sameSizes, addAnswer, addOut, added, held, raisedCells, Raisable}
 use Rattle.soundness.proofs.States.{state-sound, state-long, state-room}
-use Rattle.tally.proofs.Tables.{line-same, table-length}
+use Rattle.tally.proofs.Tables.{line-same}
+use Rattle.tally.proofs.Headings.{counted, tally-length}
 
 table-same : (n m : ℕ) (c d : ℕ → ℕ → ℕ) → ((i j : ℕ) → c i j ≡ d i j) → table n m c ≡ table n m d
 table-same zero m c d h = refl
@@ -28,13 +29,6 @@ table-same (suc n) m c d h = ap₂ _++_ (line-same m (c 0) (d 0) (λ j k. h 0 j)
 -- a list whose tail was lent
 pub put-tail : (n : ℕ) (l ys zs : List ℕ) → n ≤ length l → ys ≡ zs → putMid n (length l - n) l ys ≡ take n l ++ zs
 put-tail n l ys zs h e = ap (λ r. take n l ++ r) (ap₂ _++_ e (post-is n (length l) l h ∙ drop-length l) ∙ append-nil zs)
-
--- the first three words
-three : (t : List ℕ) (m : ℕ) → head ≤ length t → take head (set t 2 m) ≡ size1 t ∷ size2 t ∷ m ∷ []
-three [] m h = absurd (omega arith)
-three (x ∷ []) m h = absurd (omega arith)
-three (x ∷ y ∷ []) m h = absurd (omega arith)
-three (x ∷ y ∷ z ∷ t) m h = refl
 
 module _ (r t : List ℕ) where
   pub add-none : isRecord r ≡ false → (refused 12 ≡ addAnswer r t) × (t ≡ addOut r t)
@@ -81,10 +75,10 @@ module _ (r t : List ℕ) where
         add-full e = let a : addAnswer r t ≡ refused 24 = rest ∙ rw (same, eq-eqb (rounds t) maxRounds e) in (sym a, rw a)
 
         -- M is raised first; the cells are as they were
-        cells-are : (m : ℕ) → drop head (set t 2 m) ≡ drop head t
-        cells-are m = drop-set-lt head t 2 m (omega arith)
+        cells-are : (m : ℕ) → drop head (set t roundsAt m) ≡ drop head t
+        cells-are m = drop-set-lt head t roundsAt m (omega arith)
 
-        pub raisable : (m : ℕ) → Raisable (drop head (set t 2 m)) r (recordSize1 r) (recordSize2 r)
+        pub raisable : (m : ℕ) → Raisable (drop head (set t roundsAt m)) r (recordSize1 r) (recordSize2 r)
         raisable m =
             rw (cells-are m, sizes .0, sizes .1)
             (record {
@@ -98,17 +92,18 @@ module _ (r t : List ℕ) where
         module _ (few : rounds t ≡ maxRounds → ⊥) where
           -- what the slice holds then
           out : (n1 n2 : ℕ) → n1 ≡ size1 t → n2 ≡ size2 t
-              → take head (set t 2 (rounds t + 1)) ++ raisedCells r n1 n2 (drop head (set t 2 (rounds t + 1))) ≡ added r t ++ drop (length (added r t)) t
+              → take head (set t roundsAt (rounds t + 1)) ++ raisedCells r n1 n2 (drop head (set t roundsAt (rounds t + 1))) ≡ added r t ++ drop (length (added r t)) t
           out n1 n2 e f =
               let w = width (size2 t) in
               let c : ℕ → ℕ → ℕ = λ l1 l2. cell t l1 l2 + held r (size1 t) (size2 t) l1 l2 in
-              let k : head + (size1 t + 1) * w ≡ length (added r t) = omega (arith, table-length (size1 t + 1) w c) in
-              rw (e, f, cells-are (rounds t + 1), three t (rounds t + 1) (state-long t good))
-              (ap₂ (λ x y. size1 t ∷ size2 t ∷ (rounds t + 1) ∷ (x ++ y))
+              let k : head + (size1 t + 1) * w ≡ length (added r t) = sym (tally-length (size1 t) (size2 t) (rounds t + 1) c) in
+              let first = heading (size1 t) (size2 t) (rounds t + 1) c in
+              rw (e, f, cells-are (rounds t + 1), counted t (rounds t + 1) (state-long t good))
+              (ap₂ (λ x y. first ++ (x ++ y))
               (table-same (size1 t + 1) w (λ l1 l2. getD (drop head t) (l1 * w + l2) 0 + held r (size1 t) (size2 t) l1 l2) c (λ i j. ap (λ x. x + held r (size1 t) (size2 t) i j) (getD-drop head t (i * w + j) 0)))
-              (drop-drop ((size1 t + 1) * w) head t ∙ ap (λ x. drop x t) k))
+              (drop-drop ((size1 t + 1) * w) head t ∙ ap (λ x. drop x t) k) ∙ sym (append-assoc first (table (size1 t + 1) w c) (drop (length (added r t)) t)))
 
-          pub add-done : (success (0 ∷ []) ≡ addAnswer r t) × (take head (set t 2 (rounds t + 1)) ++ raisedCells r (recordSize1 r) (recordSize2 r) (drop head (set t 2 (rounds t + 1))) ≡ addOut r t)
+          pub add-done : (success (0 ∷ []) ≡ addAnswer r t) × (take head (set t roundsAt (rounds t + 1)) ++ raisedCells r (recordSize1 r) (recordSize2 r) (drop head (set t roundsAt (rounds t + 1))) ≡ addOut r t)
           add-done =
               let a : addAnswer r t ≡ success (0 ∷ []) = rest ∙ rw (same, ne-eqb (rounds t) maxRounds few) in
               (sym a, rw a (out (recordSize1 r) (recordSize2 r) (sizes .0) (sizes .1)))

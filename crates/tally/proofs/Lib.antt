@@ -1,4 +1,5 @@
 pub mod Tables
+pub mod Headings
 pub mod News
 pub mod Peaks
 pub mod Raises

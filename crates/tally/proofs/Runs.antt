@@ -22,28 +22,7 @@ use Rattle.tally.specs.Cells.{line, table, tallyOf}
 use Rattle.tally.specs.Calls.{newTests, newAnswer, newOut, addTests, addAnswer, addOut, added, held}
 use Rattle.tally.specs.Adds.{succeeds, afterAdds, accepted, holding, Tallies}
 use Rattle.soundness.proofs.States.{neither}
-use Rattle.tally.proofs.Tables.{line-length, table-length}
-
--- ---- reading a table
-line-at : (n : ℕ) (f : ℕ → ℕ) (i : ℕ) (l : List ℕ) → i < n → getD (line n f ++ l) i 0 ≡ f i
-line-at zero f i l h = absurd (omega arith)
-line-at (suc n) f zero l h = refl
-line-at (suc n) f (suc i) l h = line-at n (λ k. f (suc k)) i l (omega arith)
-
-table-at : (n m : ℕ) (c : ℕ → ℕ → ℕ) (i j : ℕ) (l : List ℕ) → i < n → j < m → getD (table n m c ++ l) (i * m + j) 0 ≡ c i j
-table-at zero m c i j l h k = absurd (omega arith)
-table-at (suc n) m c zero j l h k =
-    let e : 0 * m + j ≡ j = omega (arith, zero-mul m) in
-    ap (λ x. getD x (0 * m + j) 0) (append-assoc (line m (c 0)) (table n m (λ x. c (suc x))) l) ∙ ap (λ x. getD (line m (c 0) ++ (table n m (λ x. c (suc x)) ++ l)) x 0) e ∙ line-at m (c 0) j (table n m (λ x. c (suc x)) ++ l) k
-table-at (suc n) m c (suc i) j l h k =
-    let e : suc i * m + j ≡ length (line m (c 0)) + (i * m + j) = omega (arith, suc-mul i m, line-length m (c 0)) in
-    ap (λ x. getD x (suc i * m + j) 0) (append-assoc (line m (c 0)) (table n m (λ x. c (suc x))) l) ∙ ap (λ x. getD (line m (c 0) ++ (table n m (λ x. c (suc x)) ++ l)) x 0) e
-    ∙ getD-append-add (line m (c 0)) (table n m (λ x. c (suc x)) ++ l) (i * m + j) 0 ∙ table-at n m (λ x. c (suc x)) i j l (omega arith) k
-
-pub tally-cell : (n1 n2 m : ℕ) (c : ℕ → ℕ → ℕ) (l : List ℕ) (l1 l2 : ℕ) → l1 ≤ n1 → l2 ≤ n2 → cell (tallyOf n1 n2 m c ++ l) l1 l2 ≡ c l1 l2
-tally-cell n1 n2 m c l l1 l2 h k =
-    let e : head + (l1 * width n2 + l2) ≡ suc (suc (suc (l1 * width n2 + l2))) = omega arith in
-    ap (λ x. getD (tallyOf n1 n2 m c ++ l) x 0) e ∙ table-at (n1 + 1) (width n2) c l1 l2 l (omega arith) (omega arith)
+use Rattle.tally.proofs.Headings.{tally-length, tally-cell}
 
 -- ---- how many hold
 fewer : (r : List ℕ) (a c b d : ℕ) → a ≤ c → b ≤ d → T (recordHolds r c d) → T (recordHolds r a b)
@@ -91,7 +70,7 @@ module _ (t₀ old : List ℕ) (n1 n2 : ℕ) (rs : List (List ℕ)) (c : ℕ →
   whole = front ++ drop (length front) old
 
   front-long : length front ≡ words n1 n2
-  front-long = omega (arith, table-length (n1 + 1) (width n2) c)
+  front-long = tally-length n1 n2 (length rs) c
 
   pub tallied : n1 ≤ maxClass → n2 ≤ maxClass → length rs ≤ maxRounds → words n1 n2 ≤ length t₀ → length old ≡ length t₀ → drop (words n1 n2) old ≡ drop (words n1 n2) t₀
       → ((l1 l2 : ℕ) → l1 ≤ n1 → l2 ≤ n2 → c l1 l2 ≡ holding rs (n1 - l1) (n2 - l2)) → Tallies t₀ whole n1 n2 rs

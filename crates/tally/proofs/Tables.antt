@@ -50,6 +50,22 @@ take-line zero l h = refl
 take-line (suc m) [] h = absurd (omega arith)
 take-line (suc m) (x ∷ l) h = ap (λ r. x ∷ r) (take-line m l (omega arith))
 
+-- reading a cell
+line-at : (n : ℕ) (f : ℕ → ℕ) (i : ℕ) (l : List ℕ) → i < n → getD (line n f ++ l) i 0 ≡ f i
+line-at zero f i l h = absurd (omega arith)
+line-at (suc n) f zero l h = refl
+line-at (suc n) f (suc i) l h = line-at n (λ k. f (suc k)) i l (omega arith)
+
+pub table-at : (n m : ℕ) (c : ℕ → ℕ → ℕ) (i j : ℕ) (l : List ℕ) → i < n → j < m → getD (table n m c ++ l) (i * m + j) 0 ≡ c i j
+table-at zero m c i j l h k = absurd (omega arith)
+table-at (suc n) m c zero j l h k =
+    let e : 0 * m + j ≡ j = omega (arith, zero-mul m) in
+    ap (λ x. getD x (0 * m + j) 0) (append-assoc (line m (c 0)) (table n m (λ x. c (suc x))) l) ∙ ap (λ x. getD (line m (c 0) ++ (table n m (λ x. c (suc x)) ++ l)) x 0) e ∙ line-at m (c 0) j (table n m (λ x. c (suc x)) ++ l) k
+table-at (suc n) m c (suc i) j l h k =
+    let e : suc i * m + j ≡ length (line m (c 0)) + (i * m + j) = omega (arith, suc-mul i m, line-length m (c 0)) in
+    ap (λ x. getD x (suc i * m + j) 0) (append-assoc (line m (c 0)) (table n m (λ x. c (suc x))) l) ∙ ap (λ x. getD (line m (c 0) ++ (table n m (λ x. c (suc x)) ++ l)) x 0) e
+    ∙ getD-append-add (line m (c 0)) (table n m (λ x. c (suc x)) ++ l) (i * m + j) 0 ∙ table-at n m (λ x. c (suc x)) i j l (omega arith) k
+
 -- one row more, at the end
 pub table-snoc : (n m : ℕ) (c : ℕ → ℕ → ℕ) → table (suc n) m c ≡ table n m c ++ line m (c n)
 table-snoc zero m c = append-nil (line m (c 0))

@@ -16,7 +16,7 @@ ghost use lib.ListN.{length, getD, set, drop, replicate};
 ghost use Rattle.limits.specs.Limits.{maxRounds, maxPosition};
 ghost use Rattle.answer.specs.Outcome.{success, done};
 ghost use Rattle.record.specs.Record.{listed, isRecord};
-ghost use Rattle.soundness.specs.Tally.{head, rounds, stateAnswer};
+ghost use Rattle.soundness.specs.Tally.{head, roundsAt, rounds, stateAnswer};
 ghost use Rattle.tally.specs.Cells.{bumped, peakAt};
 ghost use Rattle.tally.specs.Calls.{newAnswer, newOut, Raisable, raisedCells, sameSizes, addAnswer, addOut};
 
@@ -123,7 +123,7 @@ fn same_sizes(record: &[u8], tally: &[u32]) -> bool
 // One round more.
 fn count_round(tally: &mut [u32])
     requires { ⌜ (head ≤ length (now tally)) × (rounds (now tally) ≤ maxRounds) ⌝ }
-    ensures { λ _. ⌜ now (tally .exit) ≡ set (now (tally .entry)) 2 (rounds (now (tally .entry)) + 1) ⌝ }
+    ensures { λ _. ⌜ now (tally .exit) ≡ set (now (tally .entry)) roundsAt (rounds (now (tally .entry)) + 1) ⌝ }
 {
     tally[ROUNDS] += 1;
 }
