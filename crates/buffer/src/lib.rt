@@ -2,6 +2,7 @@
 use answer::Written;
 use front::Pair;
 use limits::MAX_CLASS;
+use slices::wide;
 ghost use mathlib.Core.Path.{_≡_};
 ghost use mathlib.Core.List.{[], _++_, _∷_};
 ghost use Prim.Native.Nat.{_≤_, _<_, _-_};
@@ -13,12 +14,6 @@ ghost use Rattle.buffer.specs.Buffer.{longest, recordIn, stored, Puttabl
 
 // The most bytes that a record has: 3, and 2 for each pair.
 pub const LONGEST: usize = 3 + 2 * (MAX_CLASS + 1);
-
-fn wide(x: u8) -> usize
-    ensures { λ r. ⌜ (r ≡ x) × (r < 256) ⌝ }
-{
-    x as usize
-}
 
 // An empty record in a buffer with room for any.
 pub fn empty(n1: u8, n2: u8) -> [u8; LONGEST]

@@ -15,6 +15,13 @@ use Rattle.front.specs.Front.{holds, undominated, grid, front, Within, A
 use Rattle.front.proofs.Pairs.{pair-eq, numbers, dominates-is, holds-is, undominated-is}
 use Rattle.front.proofs.Grid.{grid-in, grid-out, Before, grid-ordered}
 
+-- what holds after some failures holds after fewer
+pub holds-fewer : (l : List Pair) (a c b d : ℕ) → a ≤ c → b ≤ d → T (holds l c d) → T (holds l a b)
+holds-fewer l a c b d h k t =
+    let r = any-out (λ p. holdsAt p c d) l t in
+    let x = holds-is (r .0) c d .0 (r .2) in
+    any-in (λ p. holdsAt p a b) (r .1) (holds-is (r .0) a b .1 (omega (arith, x), omega (arith, x)))
+
 -- ---- what a front lists
 front-out : (n1 n2 : ℕ) (l : List Pair) (p : Pair) → p ∈ front n1 n2 l → Within n1 n2 p × T (undominated l p)
 front-out n1 n2 l p h = let k = keep-out (undominated l) (grid (suc n1) (suc n2)) h in (omega (arith, grid-out (suc n1) (suc n2) p (k .0)), k .1)

@@ -2,7 +2,7 @@
 use mathlib.Core.Path.{_≡_, refl, sym, ap, ap₂, _∙_, subst}
 use mathlib.Core.Logic.{_↔_, inl, inr, ⊎-elim}
 use mathlib.Core.Bool.{Bool, true, false, not, _&&_, _||_, cond, or-assoc}
-use mathlib.Core.List.{List, [], _∷_, _++_, map, List·Memᴰ, List·Memᴰ·head, List·Memᴰ·tail, List·Memᴰ·append-cases, Memᴰ·append-left, Memᴰ·append-right, Memᴰ·cast}
+use mathlib.Core.List.{List, [], _∷_, _++_, append-nil, append-assoc, map, List·Memᴰ, List·Memᴰ·head, List·Memᴰ·tail, List·Memᴰ·append-cases, Memᴰ·append-left, Memᴰ·append-right, Memᴰ·cast}
 use Prim.Native.Nat.{ℕ, zero, suc, _≤_, _<_}
 use native.Mathlib.Omega.{arith}
 use lib.Dec.{T, eqb, eqb→eq, eqb-refl}
@@ -123,6 +123,10 @@ module _ {A B : Type 0} (f : A → List B) where
   abbrev pub each : List A → List B
   each [] = []
   each (x ∷ xs) = f x ++ each xs
+
+  pub each-snoc : (l : List A) (x : A) → each (l ++ (x ∷ [])) ≡ each l ++ f x
+  each-snoc [] x = append-nil (f x)
+  each-snoc (y ∷ l) x = ap (λ z. f y ++ z) (each-snoc l x) ∙ sym (append-assoc (f y) (each l) (f x))
 
   pub each-out : (l : List A) {y : B} → y ∈ each l → (x : A) × (x ∈ l) × (y ∈ f x)
   each-out (x ∷ xs) h = ⊎-elim (λ k. (x, here, k)) (λ k. let r = each-out xs k in (r .0, there (r .1), r .2)) (List·Memᴰ·append-cases (f x) h)

@@ -1,9 +1,13 @@
--- Sums over the numbers below n.
+-- Products that are bounded, and sums over the numbers below n.
 use mathlib.Core.Path.{_≡_, refl, ap₂}
 use mathlib.Core.Logic.{⊎-elim}
 use Prim.Native.Nat.{ℕ, zero, suc, _+_, _*_, _≤_, _<_}
-use native.Mathlib.Nat.{mul-zero, mul-le-mul-left, eq-or-lt-of-le, le-of-eq}
+use native.Mathlib.Nat.{mul-zero, mul-le-mul, mul-le-mul-left, eq-or-lt-of-le, le-of-eq}
+use native.Mathlib.Numerals.{add-one}
 use native.Mathlib.Omega.{arith}
+
+pub product-most : (m n a b : ℕ) → m ≤ a → n ≤ b → m * n ≤ a * b
+product-most m n a b h k = mul-le-mul h k
 
 -- g 0 + g 1 + .. + g (n - 1)
 abbrev pub sumTo : ℕ → (ℕ → ℕ) → ℕ
@@ -31,8 +35,16 @@ pub sum-bound : (n m : ℕ) (u f : ℕ → ℕ) → ((i : ℕ) → i < n → f i
 sum-bound zero m u f e = omega arith
 sum-bound (suc n) m u f e = omega (arith, sum-bound n m u f (λ i k. e i (omega arith)), mul-le-mul-left (u n) (e n (omega arith)))
 
+-- one term more
+pub sum-more : (j s x : ℕ) (g : ℕ → ℕ) → s ≡ sumTo j g → x ≡ g j → s + x ≡ sumTo (j + 1) g
+sum-more j s x g e h = rw (add-one j, e, h)
+
 -- a part of a sum is at most the sum
 pub sum-part : (m n : ℕ) (g : ℕ → ℕ) → m ≤ n → sumTo m g ≤ sumTo n g
 sum-part zero zero g h = omega arith
 sum-part (suc m) zero g h = omega arith
 sum-part m (suc n) g h = ⊎-elim (λ (e : m ≡ suc n). le-of-eq (rw e)) (λ (k : m < suc n). omega (arith, sum-part m n g (omega arith))) (eq-or-lt-of-le h)
+
+-- a part of a sum, and one term more, is within the bound of the sum
+pub part-fits : (n m j : ℕ) (g : ℕ → ℕ) → sumTo n g ≤ m → j < n → sumTo j g + g j ≤ m
+part-fits n m j g k h = omega (arith, k, sum-part (suc j) n g h)

@@ -1,7 +1,7 @@
 -- Tests: what a Bool that was computed says. `T b` is the fact that b is true.
 use mathlib.Core.Path.{_≡_, refl}
 use mathlib.Core.Logic.{_↔_, _⊎_, inl, inr, ⊎-elim}
-use mathlib.Core.Bool.{Bool, true, false, not, _&&_, _||_, true≢false, false≢true}
+use mathlib.Core.Bool.{Bool, true, false, not, cond, _&&_, _||_, true≢false, false≢true}
 use Prim.Native.Nat.{ℕ, _≤_, _<_}
 use native.Mathlib.Decide.{decLe}
 use native.Mathlib.Omega.{arith}
@@ -38,6 +38,27 @@ or-none false b e = (refl, e)
 pub and-both : (a b : Bool) → (a && b) ≡ true → (a ≡ true) × (b ≡ true)
 and-both true b e = (refl, e)
 and-both false b e = absurd (false≢true e)
+
+-- 1 for a test that passes, 0 for one that does not
+abbrev pub flag : Bool → ℕ
+flag b = cond b 1 0
+
+pub flag-le : (b : Bool) → flag b ≤ 1
+flag-le true = omega arith
+flag-le false = omega arith
+
+pub flag-true : (b : Bool) → T b → flag b ≡ 1
+flag-true true t = refl
+flag-true false t = absurd t
+
+pub true-flag : (b : Bool) → 0 < flag b → T b
+true-flag true h = tt
+true-flag false h = absurd (omega arith)
+
+pub flag-order : (a b : Bool) → (T a → T b) → flag a ≤ flag b
+flag-order true true h = omega arith
+flag-order true false h = absurd (h tt)
+flag-order false b h = omega arith
 
 -- a test passes or it does not
 pub decide : (a : Bool) → T a ⊎ (T a → ⊥)

@@ -3,7 +3,7 @@ use mathlib.Core.Path.{_≡_, refl, sym, ap, ap₂, _∙_}
 use mathlib.Core.Bool.{Bool, true, false, cond, false≢true}
 use mathlib.Core.List.{List, [], _∷_, _++_, append-nil, append-assoc}
 use Prim.Native.Nat.{ℕ, zero, suc, _+_, _-_, _*_, _≤_, _<_, min}
-use native.Mathlib.Nat.{mul-le-mul, mul-le-mul-right, suc-mul, min-eq-left, min-eq-right}
+use native.Mathlib.Nat.{mul-le-mul-right, suc-mul, min-eq-left, min-eq-right}
 use native.Mathlib.Omega.{arith}
 use lib.Dec.{ltb, leb·suc-suc}
 use lib.ListN.{length, getD, take, replicate}
@@ -16,6 +16,7 @@ use Rattle.study.specs.Calls.{openAnswer}
 use Rattle.study.proofs.Lookups.{open-values, open-fits, open-parts}
 use Rattle.search.specs.Search.{searchBytes}
 use Rattle.soundness.specs.Tally.{head, size2, width, words, largest}
+use Rattle.soundness.proofs.States.{cells-most}
 use Rattle.tally.specs.Calls.{newAnswer, addOut}
 use Rattle.tally.specs.Adds.{succeeds, Tallies}
 use Rattle.tally.proofs.News.{new-done}
@@ -226,10 +227,7 @@ module _ (f v : List ℕ) (o : reportOpens f ≡ success v) where
 
   -- ---- THE TALLY THROUGHOUT has the study's sizes, in 4,228 words
   room : words n1 n2 ≤ largest
-  room =
-      let h : n1 + 1 ≤ maxClass + 1 = omega (arith, small) in
-      let k : width n2 ≤ maxClass + 1 = omega (arith, small) in
-      omega (arith, mul-le-mul h k)
+  room = omega (arith, cells-most n1 n2 (small .0) (small .1))
 
   abbrev blank : List ℕ
   blank = replicate largest 0

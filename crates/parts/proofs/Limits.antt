@@ -2,8 +2,8 @@
 use mathlib.Core.Path.{_≡_, refl, sym, ap, _∙_}
 use mathlib.Core.Bool.{Bool, true, false, not, _||_}
 use mathlib.Core.List.{List, [], _∷_, List·Memᴰ·head, List·Memᴰ·tail}
-use Prim.Native.Nat.{ℕ, zero, suc, _+_, _-_, _*_, _/_, _≤_, _<_}
-use native.Mathlib.Nat.{suc-mul, mul-le-mul, le-trans}
+use Prim.Native.Nat.{ℕ, zero, suc, _+_, _-_, _*_, _≤_, _<_}
+use native.Mathlib.Nat.{suc-mul}
 use native.Mathlib.Omega.{arith}
 use borrow.Author.Tests.{ltb-false, leb-false, eqb-true, eqb-false, not-false}
 use lib.Dec.{eqb, leb, ltb}
@@ -90,10 +90,6 @@ piece-at (suc m) n b zero h = let e : 0 * n ≡ 0 = omega arith in ap (λ k. par
 piece-at (suc m) n b (suc r) h =
     let e : n + r * n ≡ suc r * n = omega (arith, suc-mul r n) in
     piece-at m n (drop n b) r (omega arith) ∙ ap (take n) (drop-drop (r * n) n b ∙ ap (λ k. drop k b) e)
-
--- the product of test 9 is small
-pub product-small : (m n k : ℕ) → m ≤ maxRounds → n ≤ k → k ≤ 2 * maxNodes → m * n ≤ 32000000
-product-small m n k a b c = omega (arith, mul-le-mul a (le-trans b c))
 
 -- THE LIMITS: where tests 2, 3 and 5 to 8 are false and the rounds' bytes suffice
 pub parts-within : (nodes arcs rounds : List ℕ) (s t M : ℕ)

@@ -1,7 +1,7 @@
 -- The search's state: what it is given, the chains of arcs, and the labels while they spread.
 use mathlib.Core.Path.{_≡_}
 use mathlib.Core.List.{List, [], _∷_}
-use Prim.Native.Nat.{ℕ, suc, _+_, _-_, _*_, _/_, _≤_, _<_, min, max}
+use Prim.Native.Nat.{ℕ, suc, _+_, _-_, _*_, _≤_, _<_, min, max}
 use lib.ListN.{length, getD}
 use Rattle.limits.specs.Limits.{maxNodes, maxArcs, arcSize, arcCount, maxClass, maxPosition}
 use Rattle.front.specs.Pair.{pairOf}

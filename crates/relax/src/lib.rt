@@ -3,6 +3,7 @@ use front::Pos1;
 use front::Pos2;
 use limits::ARC;
 use slices::wide;
+use slices::wide_two;
 ghost use mathlib.Core.Path.{_≡_};
 ghost use Prim.Native.Nat.{ℕ, _-_, _/_, _≤_, _<_, _*_};
 ghost use lib.ListN.{length, getD};
@@ -36,12 +37,6 @@ pub fn step_to(at: Step, x: Pos1, level: Pos2, node: u8, top: usize) -> Step
         node: node,
         top: top,
     }
-}
-
-fn wide2(x: u16) -> usize
-    ensures { λ r. ⌜ r ≡ x ⌝ }
-{
-    x as usize
 }
 
 // The arcs into each node as a chain of places, the later place first; a place is kept as one more,
@@ -84,10 +79,10 @@ pub fn spread(
     ensures kept { λ r. ⌜ Kept (at .level .0) (now (label .entry)) (now (stack .entry)) (now (wait .entry)) (at .top) (now (label .exit)) (now (stack .exit)) (now (wait .exit)) r ⌝ }
 {
     let mut top = at.top;
-    let mut i = wide2(first[wide(at.node)]);
+    let mut i = wide_two(first[wide(at.node)]);
     while 0 < i {
         let p = i - 1;
-        i = wide2(more[p]);
+        i = wide_two(more[p]);
         let from = arcs[ARC * p];
         let u = wide(from);
         let c = at.level.min(Pos2(cap[u]));

@@ -2,10 +2,12 @@
 use mathlib.Core.Path.{_≡_, refl, sym, _∙_}
 use mathlib.Core.Bool.{Bool, true, false, not, _&&_, _||_}
 use mathlib.Core.List.{List, [], _∷_}
-use Prim.Native.Nat.{ℕ, _≤_, _<_}
+use Prim.Native.Nat.{ℕ, _≤_, _<_, _+_, _*_}
+use native.Mathlib.Omega.{arith}
 use lib.Dec.{leb, ltb}
 use lib.ListN.{length, drop}
 use borrow.Author.Tests.{le-leb, lt-leb, le-ltb, lt-ltb, ltb-true, ltb-false, not-false}
+use Rattle.laws.specs.Sums.{product-most}
 use Rattle.limits.specs.Limits.{maxRounds, maxClass}
 use Rattle.laws.specs.Tests.{or-none}
 use Rattle.laws.specs.Members.{here, there}
@@ -25,6 +27,10 @@ not-both a b e = go (ltb maxClass a) refl e
     go : (x : Bool) → ltb maxClass a ≡ x → x || ltb maxClass b ≡ true → leb a maxClass && leb b maxClass ≡ false
     go true q h = rw (lt-leb a maxClass (ltb-true maxClass a q))
     go false q h = rw (lt-leb b maxClass (ltb-true maxClass b h)) (second (leb a maxClass))
+
+-- the cells of any tally
+pub cells-most : (n1 n2 : ℕ) → n1 ≤ maxClass → n2 ≤ maxClass → (n1 + 1) * (n2 + 1) ≤ (maxClass + 1) * (maxClass + 1)
+cells-most n1 n2 h k = product-most (n1 + 1) (n2 + 1) (maxClass + 1) (maxClass + 1) (omega arith) (omega arith)
 
 pub neither : (a b : ℕ) → ltb maxClass a || ltb maxClass b ≡ false → (a ≤ maxClass) × (b ≤ maxClass)
 neither a b e = let k = or-none (ltb maxClass a) (ltb maxClass b) e in (ltb-false maxClass a (k .0), ltb-false maxClass b (k .1))

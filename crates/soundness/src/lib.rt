@@ -3,8 +3,9 @@ use answer::Done;
 use answer::Refusal;
 use limits::MAX_CLASS;
 use limits::MAX_ROUNDS;
+use slices::wide_word;
 ghost use mathlib.Core.Path.{_≡_};
-ghost use Prim.Native.Nat.{_+_, _*_, _≤_, _<_};
+ghost use Prim.Native.Nat.{_+_, _*_, _≤_};
 ghost use lib.ListN.{length};
 ghost use Rattle.limits.specs.Limits.{maxClass};
 ghost use Rattle.answer.specs.Outcome.{done};
@@ -20,13 +21,6 @@ pub const LARGEST: usize = HEAD + (MAX_CLASS + 1) * (MAX_CLASS + 1);
 
 // M of a tally that takes no more rounds.
 pub const FULL: u32 = MAX_ROUNDS as u32;
-
-// A word of a tally as a count or a place.
-pub fn wide(x: u32) -> usize
-    ensures { λ r. ⌜ (r ≡ x) × (r < 4294967296) ⌝ }
-{
-    x as usize
-}
 
 // Whether each of `count` cells from a place on is at most the one `step` places later.
 fn rises(cells: &[u32], at: usize, count: usize, step: usize) -> bool
@@ -75,8 +69,8 @@ pub fn check(tally: &[u32]) -> Done
     if tally.len() < HEAD {
         return Done::Refused(Refusal::TallyShort);
     }
-    let n1 = wide(tally[0]);
-    let n2 = wide(tally[1]);
+    let n1 = wide_word(tally[0]);
+    let n2 = wide_word(tally[1]);
     if (n1 > MAX_CLASS) | (n2 > MAX_CLASS) {
         return Done::Refused(Refusal::TallyUnsound);
     }

@@ -10,7 +10,7 @@ use lib.Dec.{T, eqb}
 use lib.ListN.{length, length-append}
 use Rattle.laws.specs.Members.{_∈_, here, there}
 use Rattle.laws.specs.Sums.{sumTo, sum-same}
-use Rattle.laws.specs.Tests.{and-both}
+use Rattle.laws.specs.Tests.{and-both, flag}
 use Rattle.answer.specs.Outcome.{success}
 use Rattle.answer.proofs.Outcomes.{outcome-tests}
 use Rattle.record.specs.Record.{size1 as recordSize1, size2 as recordSize2, recordHolds}
@@ -96,7 +96,7 @@ count-holding [] a b = refl
 count-holding (x ∷ xs) a b = go (recordHolds x a b) (count-holding xs a b)
   where
     go : (h : Bool) → Count (λ x. T (recordHolds x a b)) xs (holding xs a b)
-        → (T h × ((m : ℕ) × (cond h 1 0 + holding xs a b ≡ suc m) × Count (λ x. T (recordHolds x a b)) xs m)) ⊎ ((T h → ⊥) × Count (λ x. T (recordHolds x a b)) xs (cond h 1 0 + holding xs a b))
+        → (T h × ((m : ℕ) × (flag h + holding xs a b ≡ suc m) × Count (λ x. T (recordHolds x a b)) xs m)) ⊎ ((T h → ⊥) × Count (λ x. T (recordHolds x a b)) xs (flag h + holding xs a b))
     go true c = inl (tt, (holding xs a b, omega arith, c))
     go false c = inr ((λ t. t), subst (Count (λ x. T (recordHolds x a b)) xs) (omega arith) c)
 

@@ -8,24 +8,16 @@ use native.Mathlib.Omega.{arith}
 use lib.Dec.{T, ltb, ltb→lt, lt→ltb}
 use lib.ListN.{length}
 use Rattle.laws.specs.Tests.{T-ext, T-and, T-or, order}
-use Rattle.laws.specs.Members.{any-out, any-in}
-use Rattle.front.specs.declared.Pair.{Pair}
 use Rattle.front.specs.Pair.{pairOf, holdsAt}
 use Rattle.front.specs.Front.{holds, Within, AllWithin}
 use Rattle.front.proofs.Pairs.{holds-is}
+use Rattle.front.proofs.Fronts.{holds-fewer}
 use Rattle.record.specs.Record.{size1, size2, listed, frontBytes}
 use Rattle.buffer.specs.Buffer.{longest, recordIn, Puttable}
 use Rattle.buffer.proofs.Collects.{Collects, collects-puttable, collects-more, collects-all}
 use Rattle.network.specs.Walk.{pathPairs}
 use Rattle.relax.specs.State.{Graph, net}
 use Rattle.sweep.specs.Sweep.{whole, below}
-
--- what holds after more failures holds after fewer
-pub holds-fewer : (l : List Pair) (a c b : ℕ) → a ≤ c → T (holds l c b) → T (holds l a b)
-holds-fewer l a c b h t =
-    let r = any-out (λ p. holdsAt p c b) l t in
-    let k = holds-is (r .0) c b .0 (r .2) in
-    any-in (λ p. holdsAt p a b) (r .1) (holds-is (r .0) a b .1 (omega arith, k .1))
 
 module _ (f : Graph) where
   pub below-is : (x a b : ℕ) → T (below f x a b) ↔ ((a < x) × T (whole f a b))
@@ -71,7 +63,7 @@ module _ (f : Graph) where
               (λ lt.
               let e : u ≡ a = omega arith in
               let b : v < last = omega (arith, now v .0 (subst (λ k. T (whole f k v)) e t)) in
-              ⊎-elim (λ d. inl (holds-fewer (c .done) u x v (omega arith) d)) (λ n. absurd (omega arith)) (out x v (old v .1 b))) (out u v t))
+              ⊎-elim (λ d. inl (holds-fewer (c .done) u x v v (omega arith) (omega arith) d)) (λ n. absurd (omega arith)) (out x v (old v .1 b))) (out u v t))
               (λ lt. inr (below-is a u v .1 (lt, t))) (order a u)
 
       -- the height rises: the pair (x, y) is put
@@ -96,7 +88,7 @@ module _ (f : Graph) where
                 (λ lt. inr (below-is a u v .1 (lt, k .1))) (order a u)
 
             from : (u v : ℕ) → T (holdsAt (pairOf x y) u v) → (u < x) × T (whole f u v)
-            from u v t = let k = holds-is (pairOf x y) u v .0 t in (k .0, holds-fewer (pathPairs (net f)) u a v (omega (arith, k .0)) (now v .1 (k .1)))
+            from u v t = let k = holds-is (pairOf x y) u v .0 t in (k .0, holds-fewer (pathPairs (net f)) u a v v (omega (arith, k .0)) (omega arith) (now v .1 (k .1)))
 
   -- nothing lies below 0: the record is the front
   pub all-collected : {buf : List ℕ} → Collects (f .n1) (f .n2) (whole f) (below f 0) 0 buf → AllWithin (f .n1) (f .n2) (pathPairs (net f)) → recordIn buf ≡ frontBytes (f .n1) (f .n2) (pathPairs (net f))

@@ -2,7 +2,7 @@
 use mathlib.Core.Path.{_≡_, refl, sym, _∙_, subst}
 use mathlib.Core.Logic.{⊎-elim}
 use mathlib.Core.List.{List, [], _∷_, _++_}
-use Prim.Native.Nat.{ℕ, zero, suc, _-_, _/_, _≤_, _<_, _+_}
+use Prim.Native.Nat.{ℕ, zero, suc, _-_, _≤_, _<_, _+_}
 use native.Mathlib.Omega.{arith}
 use lib.ListN.{length, getD, set, replicate, length-set, length-replicate}
 use lib.Seq.{getD-set-same}
@@ -13,6 +13,7 @@ use Rattle.laws.specs.Parts.{getD-same}
 use Rattle.front.specs.Pair.{pairOf, holdsAt}
 use Rattle.front.specs.Front.{Within, AllWithin}
 use Rattle.front.proofs.Pairs.{holds-is}
+use Rattle.front.proofs.Fronts.{holds-fewer}
 use Rattle.record.specs.Record.{size1, size2, listed, frontBytes}
 use Rattle.buffer.specs.Buffer.{longest, recordIn, Puttable}
 use Rattle.buffer.proofs.Collects.{Collects, collects-none}
@@ -21,7 +22,7 @@ use Rattle.relax.specs.State.{Graph, Laid, Chains, Work, Still, Room, Lengths, 
 use Rattle.labels.proofs.Drains.{skipped, entered, first-in}
 use Rattle.labels.proofs.Rests.{at-rest, at-first}
 use Rattle.sweep.specs.Sweep.{whole, below, ByOrder, NextIn}
-use Rattle.sweep.proofs.Sweeps.{Height, holds-fewer, below-is, same-height, rise-puttable, rise-height, all-collected}
+use Rattle.sweep.proofs.Sweeps.{Height, below-is, same-height, rise-puttable, rise-height, all-collected}
 
 -- the sweep at x, where `node` enters; `last` is the height after x failures
 pub record Sweeping (f : Graph) (first more order label stack wait found : List ℕ) (x node last : ℕ) : Type 0 where
@@ -170,7 +171,7 @@ module _ {f : Graph} {first more order found : List ℕ} (l : Laid f) (o : ByOrd
             begins = c .begins;
             form = c .form;
             holding = λ u v. T-ext (whole f u v) (below f x u v) (
-              λ t. ⊎-elim (λ (le : x ≤ u). absurd (omega (arith, shut v .0 (holds-fewer (pathPairs (net f)) x u v le t)))) (λ lt. below-is f x u v .1 (lt, t)) (sides x u),
+              λ t. ⊎-elim (λ (le : x ≤ u). absurd (omega (arith, shut v .0 (holds-fewer (pathPairs (net f)) x u v v le (omega arith) t)))) (λ lt. below-is f x u v .1 (lt, t)) (sides x u),
               λ t. below-is f x u v .0 t .1,
             ) ∙ c .holding u v;
             above = c .above;

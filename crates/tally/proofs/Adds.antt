@@ -11,6 +11,7 @@ use lib.Seq.{drop-length, getD-drop, drop-drop, drop-set-lt}
 use borrow.Rule.Slice.PartMut.{putMid, post-is}
 use borrow.Author.Tests.{eqb-true, eq-eqb, ne-eqb}
 use Rattle.limits.specs.Limits.{maxRounds}
+use Rattle.laws.specs.Lists.{list-same}
 use Rattle.laws.specs.Tests.{T-true, and-both}
 use Rattle.answer.specs.Outcome.{success, refused, outcome}
 use Rattle.answer.proofs.Outcomes.{outcome-refused, outcome-passed}
@@ -19,12 +20,11 @@ use Rattle.soundness.specs.Tally.{head, roundsAt, size1, size2, rounds, width, 
 use Rattle.tally.specs.Cells.{table, heading}
 use Rattle.tally.specs.Calls.{sameSizes, addAnswer, addOut, added, held, raisedCells, Raisable}
 use Rattle.soundness.proofs.States.{state-sound, state-long, state-room}
-use Rattle.tally.proofs.Tables.{line-same}
 use Rattle.tally.proofs.Headings.{counted, tally-length}
 
 table-same : (n m : ℕ) (c d : ℕ → ℕ → ℕ) → ((i j : ℕ) → c i j ≡ d i j) → table n m c ≡ table n m d
 table-same zero m c d h = refl
-table-same (suc n) m c d h = ap₂ _++_ (line-same m (c 0) (d 0) (λ j k. h 0 j)) (table-same n m (λ i. c (suc i)) (λ i. d (suc i)) (λ i j. h (suc i) j))
+table-same (suc n) m c d h = ap₂ _++_ (list-same m (c 0) (d 0) (λ j k. h 0 j)) (table-same n m (λ i. c (suc i)) (λ i. d (suc i)) (λ i j. h (suc i) j))
 
 -- a list whose tail was lent
 pub put-tail : (n : ℕ) (l ys zs : List ℕ) → n ≤ length l → ys ≡ zs → putMid n (length l - n) l ys ≡ take n l ++ zs

@@ -1,6 +1,6 @@
 -- The loop of `raise`, over lists: a row of cells a turn.
 use mathlib.Core.Path.{_≡_, refl, sym, ap, ap₂, _∙_}
-use mathlib.Core.Bool.{false, cond}
+use mathlib.Core.Bool.{false}
 use mathlib.Core.List.{List, _++_}
 use Prim.Native.Nat.{ℕ, suc, _+_, _-_, _*_, _≤_, _<_, max}
 use native.Mathlib.Nat.{mul-le-mul-right}
@@ -8,7 +8,7 @@ use native.Mathlib.Omega.{arith}
 use lib.ListN.{length, getD, drop, length-append, length-drop}
 use lib.Seq.{getD-append-add, getD-drop}
 use Rattle.limits.specs.Limits.{maxRounds, maxClass}
-use Rattle.laws.specs.Tests.{T-true, T-ext}
+use Rattle.laws.specs.Tests.{T-true, T-ext, flag}
 use Rattle.laws.specs.Members.{_∈_}
 use Rattle.front.specs.declared.Pair.{Pair}
 use Rattle.record.specs.Record.{listed, recordHolds}
@@ -21,11 +21,11 @@ use Rattle.tally.proofs.Tables.{table-length, table-snoc, row-raised}
 
 -- whether the record holds, by its height
 held-one : (r : List ℕ) (n1 n2 l1 l2 : ℕ) → n2 - l2 < peak (listed r) (n1 - l1) → held r n1 n2 l1 l2 ≡ 1
-held-one r n1 n2 l1 l2 h = ap (λ b. cond b 1 0) (T-true (recordHolds r (n1 - l1) (n2 - l2)) .0 (holds-peak (listed r) (n1 - l1) (n2 - l2) .1 h))
+held-one r n1 n2 l1 l2 h = ap flag (T-true (recordHolds r (n1 - l1) (n2 - l2)) .0 (holds-peak (listed r) (n1 - l1) (n2 - l2) .1 h))
 
 held-none : (r : List ℕ) (n1 n2 l1 l2 : ℕ) → peak (listed r) (n1 - l1) ≤ n2 - l2 → held r n1 n2 l1 l2 ≡ 0
 held-none r n1 n2 l1 l2 h =
-    ap (λ b. cond b 1 0) (T-ext (recordHolds r (n1 - l1) (n2 - l2)) false (λ t. absurd (omega (arith, holds-peak (listed r) (n1 - l1) (n2 - l2) .0 t)), λ t. absurd t))
+    ap flag (T-ext (recordHolds r (n1 - l1) (n2 - l2)) false (λ t. absurd (omega (arith, holds-peak (listed r) (n1 - l1) (n2 - l2) .0 t)), λ t. absurd t))
 
 -- x − 1 failures of class 1 come next; the rows of more failures are done
 pub record Raising (r old cells : List ℕ) (n1 n2 y at x : ℕ) : Type 0 where

@@ -1,54 +1,38 @@
 -- Lists of adds, refused ones among them, by induction.
 use mathlib.Core.Path.{_≡_, refl, sym, ap, subst, _∙_}
 use mathlib.Core.Bool.{Bool, true, false, cond, _||_}
-use mathlib.Core.List.{List, [], _∷_, _++_, append-nil, append-assoc}
-use Prim.Native.Nat.{ℕ, zero, suc, _+_, _-_, _*_, _≤_, _<_}
-use native.Mathlib.Nat.{suc-mul, zero-mul}
+use mathlib.Core.List.{List, [], _∷_, _++_, append-nil}
+use Prim.Native.Nat.{ℕ, suc, _+_, _-_, _≤_}
 use native.Mathlib.Omega.{arith}
-use lib.Dec.{T, eqb, ltb}
-use lib.ListN.{length, getD, drop, length-append}
-use lib.Seq.{append-snoc, getD-append-add, length-front, length-take-le, drop-at}
+use lib.Dec.{eqb, ltb}
+use lib.ListN.{length, drop, length-append}
+use lib.Seq.{append-snoc, length-front, length-take-le, drop-at}
 use borrow.Author.Tests.{ltb-false, eqb-false}
 use Rattle.limits.specs.Limits.{maxRounds, maxClass}
-use Rattle.laws.specs.Members.{any-out, any-in, here, there}
+use Rattle.laws.specs.Tests.{flag, flag-le, flag-order}
+use Rattle.laws.specs.Members.{here, there}
 use Rattle.answer.specs.Outcome.{Outcome, success, refused, filled}
 use Rattle.answer.proofs.Outcomes.{outcome-tests, outcome-values}
-use Rattle.front.specs.Pair.{holdsAt}
-use Rattle.front.proofs.Pairs.{holds-is}
+use Rattle.front.proofs.Fronts.{holds-fewer}
 use Rattle.record.specs.Record.{listed, recordHolds}
 use Rattle.chance.specs.Chance.{Grows}
-use Rattle.soundness.specs.Tally.{head, size1, size2, rounds, width, words, cell}
-use Rattle.tally.specs.Cells.{line, table, tallyOf}
+use Rattle.soundness.specs.Tally.{size1, size2, rounds, words, cell}
+use Rattle.tally.specs.Cells.{tallyOf}
 use Rattle.tally.specs.Calls.{newTests, newAnswer, newOut, addTests, addAnswer, addOut, added, held}
 use Rattle.tally.specs.Adds.{succeeds, afterAdds, accepted, holding, Tallies}
 use Rattle.soundness.proofs.States.{neither}
 use Rattle.tally.proofs.Headings.{tally-length, tally-cell}
 
 -- ---- how many hold
-fewer : (r : List ℕ) (a c b d : ℕ) → a ≤ c → b ≤ d → T (recordHolds r c d) → T (recordHolds r a b)
-fewer r a c b d h k t =
-    let x = any-out (λ p. holdsAt p c d) (listed r) t in
-    let y = holds-is (x .0) c d .0 (x .2) in
-    any-in (λ p. holdsAt p a b) (x .1) (holds-is (x .0) a b .1 (omega (arith, y), omega (arith, y)))
-
-one-most : (x : Bool) → cond x 1 0 ≤ 1
-one-most true = omega arith
-one-most false = omega arith
-
-one-order : (x y : Bool) → (T x → T y) → cond x 1 0 ≤ cond y 1 0
-one-order true true h = omega arith
-one-order true false h = absurd (h tt)
-one-order false y h = omega arith
-
 holding-most : (rs : List (List ℕ)) (a b : ℕ) → holding rs a b ≤ length rs
 holding-most [] a b = omega arith
-holding-most (r ∷ rs) a b = omega (arith, one-most (recordHolds r a b), holding-most rs a b)
+holding-most (r ∷ rs) a b = omega (arith, flag-le (recordHolds r a b), holding-most rs a b)
 
 holding-order : (rs : List (List ℕ)) (a c b d : ℕ) → a ≤ c → b ≤ d → holding rs c d ≤ holding rs a b
 holding-order [] a c b d h k = omega arith
-holding-order (r ∷ rs) a c b d h k = omega (arith, one-order (recordHolds r c d) (recordHolds r a b) (fewer r a c b d h k), holding-order rs a c b d h k)
+holding-order (r ∷ rs) a c b d h k = omega (arith, flag-order (recordHolds r c d) (recordHolds r a b) (holds-fewer (listed r) a c b d h k), holding-order rs a c b d h k)
 
-pub holding-snoc : (rs : List (List ℕ)) (r : List ℕ) (a b : ℕ) → holding (rs ++ (r ∷ [])) a b ≡ holding rs a b + cond (recordHolds r a b) 1 0
+pub holding-snoc : (rs : List (List ℕ)) (r : List ℕ) (a b : ℕ) → holding (rs ++ (r ∷ [])) a b ≡ holding rs a b + flag (recordHolds r a b)
 holding-snoc [] r a b = omega arith
 holding-snoc (q ∷ rs) r a b = omega (arith, holding-snoc rs r a b)
 

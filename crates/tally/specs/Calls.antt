@@ -1,11 +1,12 @@
 -- What new (01: fresh) and add answer and leave.
 use mathlib.Core.Path.{_≡_}
-use mathlib.Core.Bool.{Bool, not, cond, _&&_, _||_}
+use mathlib.Core.Bool.{Bool, not, _&&_, _||_}
 use mathlib.Core.List.{List, [], _∷_, _++_}
 use Prim.Native.Nat.{ℕ, _+_, _-_, _*_, _≤_, _<_}
 use lib.Dec.{T, eqb, ltb}
 use lib.ListN.{length, getD, drop}
 use Rattle.limits.specs.Limits.{maxRounds, maxClass}
+use Rattle.laws.specs.Tests.{flag}
 use Rattle.answer.specs.Outcome.{Outcome, outcome, filled}
 use Rattle.record.specs.Record.{isRecord, recordHolds, size1 as recordSize1, size2 as recordSize2}
 use Rattle.soundness.specs.Tally.{size1, size2, rounds, width, words, cell, noRoom, isSound}
@@ -34,7 +35,7 @@ addAnswer r t = outcome (addTests r t) (0 ∷ [])
 
 -- 1 where the record holds with the last l1 and l2 working
 abbrev pub held : List ℕ → ℕ → ℕ → ℕ → ℕ → ℕ
-held r n1 n2 l1 l2 = cond (recordHolds r (n1 - l1) (n2 - l2)) 1 0
+held r n1 n2 l1 l2 = flag (recordHolds r (n1 - l1) (n2 - l2))
 
 -- the cells alone, each raised by 1 where the record holds
 abbrev pub raisedCells : List ℕ → ℕ → ℕ → List ℕ → List ℕ

@@ -4,18 +4,15 @@ use mathlib.Core.List.{List, [], _∷_, _++_}
 use Prim.Native.Nat.{ℕ, zero, suc, _+_, max}
 use lib.Dec.{eqb, ltb}
 use lib.ListN.{getD, take, drop}
+use Rattle.laws.specs.Lists.{listTo}
 use Rattle.front.specs.declared.Pair.{Pair}
 use Rattle.soundness.specs.Tally.{width}
 
 -- ---- a tally from its cells
--- f 0 to f (n - 1), and n rows of m
-abbrev pub line : ℕ → (ℕ → ℕ) → List ℕ
-line zero f = []
-line (suc n) f = f 0 ∷ line n (λ i. f (suc i))
-
+-- n rows of m
 abbrev pub table : ℕ → ℕ → (ℕ → ℕ → ℕ) → List ℕ
 table zero m c = []
-table (suc n) m c = line m (c 0) ++ table n m (λ i. c (suc i))
+table (suc n) m c = listTo m (c 0) ++ table n m (λ i. c (suc i))
 
 -- the words in front of the cells c
 abbrev pub heading : ℕ → ℕ → ℕ → (ℕ → ℕ → ℕ) → List ℕ
@@ -36,4 +33,4 @@ peakAt (p ∷ l) x = max (cond (eqb (p .p1 .0) x) (p .p2 .0) 0) (peakAt l x)
 
 -- the n cells from a place on raised by 1
 abbrev pub bumped : List ℕ → ℕ → ℕ → List ℕ
-bumped l from n = take from l ++ line n (λ i. getD l (from + i) 0 + 1) ++ drop (from + n) l
+bumped l from n = take from l ++ listTo n (λ i. getD l (from + i) 0 + 1) ++ drop (from + n) l

@@ -4,6 +4,7 @@ use answer::Refusal;
 use front::Pos2;
 use limits::MAX_CLASS;
 use limits::MAX_POSITION;
+use slices::wide_word;
 use soundness::FULL;
 use soundness::HEAD;
 use soundness::ROUNDS;
@@ -38,8 +39,8 @@ pub fn new(n1: u32, n2: u32, tally: &mut [u32]) -> Done
     ensures answer { λ r. ⌜ done r ≡ newAnswer n1 n2 (length (now (tally .entry))) ⌝ }
     ensures slice { λ _. ⌜ now (tally .exit) ≡ newOut n1 n2 (now (tally .entry)) ⌝ }
 {
-    let a = soundness::wide(n1);
-    let b = soundness::wide(n2);
+    let a = wide_word(n1);
+    let b = wide_word(n2);
     if (a > MAX_CLASS) | (b > MAX_CLASS) {
         return Done::Refused(Refusal::ClassSize);
     }
@@ -115,8 +116,8 @@ fn same_sizes(record: &[u8], tally: &[u32]) -> bool
     ensures { λ r. ⌜ r ≡ sameSizes (now («record» .entry)) (now (tally .entry)) ⌝ }
 {
     let head = record::read_head(record);
-    let same1 = slices::wide(head.n1) == soundness::wide(tally[0]);
-    let same2 = slices::wide(head.n2) == soundness::wide(tally[1]);
+    let same1 = slices::wide(head.n1) == wide_word(tally[0]);
+    let same2 = slices::wide(head.n2) == wide_word(tally[1]);
     same1 & same2
 }
 

@@ -1,10 +1,9 @@
 -- `parts::bad_arcs`: what is found before arc i, and what the arcs from i on say.
 use mathlib.Core.Path.{_≡_, refl, sym, _∙_}
 use mathlib.Core.Bool.{_||_}
-use Prim.Native.Nat.{_-_, _/_, _≤_}
+use Prim.Native.Nat.{_-_, _≤_}
 use native.Mathlib.Omega.{arith}
 use borrow.Author.Needs.{needs}
-use lib.ListN.{length}
 use Rattle.limits.specs.Limits.{arcCount}
 use Rattle.parts.specs.Tests.{badArc, badArcs}
 use Rattle.parts.proofs.Scans.{anyArc, arc-next, arc-end}

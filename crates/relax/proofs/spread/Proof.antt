@@ -21,11 +21,11 @@ turn : (c : tie.After-min Inv-loop μ-loop)
     → let a = c .before .before .before .before .before .before .before .before .before .before .before .before .before .before .before .before .before .before .before .args in
     let l = c .before .before .before .before .before .before .before .loop in
     Turn (graphOf (a .arcs .now) (a .entry .now) (a .cap .now) (a .at)) (a .first .now) (a .more .now) (a .at .x .0 - 1) (a .at .level .0) (a .label .now) (a .stack .now) (a .wait .now) (a .at .top)
-    (l .label) (l .stack) (l .wait) (l .top) (a .at .node) (l .i) (l .i - 1) (c .before .before .before .before .wide22 .result) (c .before .before .wide3 .result) (c .min .result .0)
-turn c = record { state = c .before .before .before .before .before .before .before .loop .inv; is-p = omega arith; is-m = c .before .before .before .before .wide22 .ensures; is-u = c .before .before .wide3 .ensures .0; is-c = c .min .ensures }
+    (l .label) (l .stack) (l .wait) (l .top) (a .at .node) (l .i) (l .i - 1) (c .before .before .before .before .wide-two2 .result) (c .before .before .wide2 .result) (c .min .result .0)
+turn c = record { state = c .before .before .before .before .before .before .before .loop .inv; is-p = omega arith; is-m = c .before .before .before .before .wide-two2 .ensures; is-u = c .before .before .wide2 .ensures .0; is-c = c .min .ensures }
 
 -- what the tests say
-rise : (c : tie.Else1 Inv-loop μ-loop) → getD (c .before .before .before .before .before .before .before .before .before .before .loop .label) (c .before .before .before .before .before .wide3 .result) 0 < c .before .before .before .min .result .0
+rise : (c : tie.Else1 Inv-loop μ-loop) → getD (c .before .before .before .before .before .before .before .before .before .before .loop .label) (c .before .before .before .before .before .wide2 .result) 0 < c .before .before .before .min .result .0
 rise c = leb-false _ _ (sym (c .before .at-least .ensures) ∙ c .if1 .left)
 
 below : (c : tie.Then2 Inv-loop μ-loop) → c .before .before .before .before .before .min .result .0 < c .before .before .before .before .before .before .before .before .before .before .before .before .before .before .before .before .before .before .before .before .before .before .before .before .args .at .level .0
@@ -34,28 +34,28 @@ below c = leb-false _ _ (sym (c .before .at-least2 .ensures) ∙ not-true _ (c .
 at-level : (c : tie.Else2 Inv-loop μ-loop) → c .before .before .before .before .before .before .before .before .before .before .before .before .before .before .before .before .before .before .before .before .before .before .before .before .args .at .level .0 ≤ c .before .before .before .before .before .min .result .0
 at-level c = leb-true _ _ (sym (c .before .at-least2 .ensures) ∙ not-false _ (c .if2 .left))
 
-shut : (c : tie.Then3 Inv-loop μ-loop) → let a = c .before .before .before .before .before .before .before .before .before .before .before .before .before .before .before .before .before .before .before .before .before .before .before .before .before .before .before .args in getD (a .entry .now) (c .before .before .before .before .before .before .before .before .before .before .wide3 .result) 0 < a .at .x .0
+shut : (c : tie.Then3 Inv-loop μ-loop) → let a = c .before .before .before .before .before .before .before .before .before .before .before .before .before .before .before .before .before .before .before .before .before .before .before .before .before .before .before .args in getD (a .entry .now) (c .before .before .before .before .before .before .before .before .before .before .wide2 .result) 0 < a .at .x .0
 shut c = leb-false _ _ (sym (c .before .at-least3 .ensures) ∙ not-true _ (c .if3 .taken))
 
-entered : (c : tie.Else3 Inv-loop μ-loop) → let a = c .before .before .before .before .before .before .before .before .before .before .before .before .before .before .before .before .before .before .before .before .before .before .before .before .before .before .before .args in a .at .x .0 ≤ getD (a .entry .now) (c .before .before .before .before .before .before .before .before .before .before .wide3 .result) 0
+entered : (c : tie.Else3 Inv-loop μ-loop) → let a = c .before .before .before .before .before .before .before .before .before .before .before .before .before .before .before .before .before .before .before .before .before .before .before .before .before .before .before .args in a .at .x .0 ≤ getD (a .entry .now) (c .before .before .before .before .before .before .before .before .before .before .wide2 .result) 0
 entered c = leb-true _ _ (sym (c .before .at-least3 .ensures) ∙ not-false _ (c .if3 .left))
 
 wide-requires : tie.Need-wide-requires Inv-loop μ-loop
 wide-requires c κs = search needs
 
-mul-wide2 : tie.Need-mul-wide2 Inv-loop μ-loop
-mul-wide2 c = search needs
+mul-wide-two : tie.Need-mul-wide-two Inv-loop μ-loop
+mul-wide-two c = search needs
 
-shared-slice-read-wide2 : tie.Need-shared-slice-read-wide2 Inv-loop μ-loop
-shared-slice-read-wide2 c = search needs
+shared-slice-read-wide-two : tie.Need-shared-slice-read-wide-two Inv-loop μ-loop
+shared-slice-read-wide-two c = search needs
 
-wide2-requires : tie.Need-wide2-requires Inv-loop μ-loop
-wide2-requires c κs = search needs
+wide-two-requires : tie.Need-wide-two-requires Inv-loop μ-loop
+wide-two-requires c κs = search needs
 
 loop-holds : tie.Need-loop-holds Inv-loop μ-loop
 loop-holds c =
     let s = c .before .before .before .before .before .before .before .before .before .before .before in
-    let e = c .wide2 .ensures in
+    let e = c .wide-two .ensures in
     record {
       work = rw (e, c .before .before .wide .ensures .0) (s .pre .0);
       kept = record { long = refl; long-stack = refl; long-wait = refl; less = omega arith };
@@ -67,14 +67,14 @@ loop-holds c =
 sub-p : tie.Need-sub-p Inv-loop μ-loop
 sub-p c = search needs
 
-mul-wide2-2 : tie.Need-mul-wide2-2 Inv-loop μ-loop
-mul-wide2-2 c = omega (arith, place (c .before .loop .inv) (c .before .loop .i - 1) (omega arith))
+mul-wide-two-2 : tie.Need-mul-wide-two-2 Inv-loop μ-loop
+mul-wide-two-2 c = omega (arith, place (c .before .loop .inv) (c .before .loop .i - 1) (omega arith))
 
-shared-slice-read-wide2-2 : tie.Need-shared-slice-read-wide2-2 Inv-loop μ-loop
-shared-slice-read-wide2-2 c = omega (arith, place (c .before .before .loop .inv) (c .before .before .loop .i - 1) (omega arith))
+shared-slice-read-wide-two-2 : tie.Need-shared-slice-read-wide-two-2 Inv-loop μ-loop
+shared-slice-read-wide-two-2 c = omega (arith, place (c .before .before .loop .inv) (c .before .before .loop .i - 1) (omega arith))
 
-wide2-requires-2 : tie.Need-wide2-requires-2 Inv-loop μ-loop
-wide2-requires-2 c κs = search needs
+wide-two-requires-2 : tie.Need-wide-two-requires-2 Inv-loop μ-loop
+wide-two-requires-2 c κs = search needs
 
 mul-from : tie.Need-mul-from Inv-loop μ-loop
 mul-from c = omega (arith, place (c .before .before .before .loop .inv) (c .before .before .before .loop .i - 1) (omega arith))
@@ -86,7 +86,7 @@ wide-requires-2 : tie.Need-wide-requires-2 Inv-loop μ-loop
 wide-requires-2 c κs = search needs
 
 shared-slice-read-t25 : tie.Need-shared-slice-read-t25 Inv-loop μ-loop
-shared-slice-read-t25 c = omega (arith, at-node (c .before .before .before .before .before .before .loop .inv) (c .before .before .before .before .before .before .loop .i - 1) (omega arith) (c .before .wide3 .result) (c .before .wide3 .ensures .0))
+shared-slice-read-t25 c = omega (arith, at-node (c .before .before .before .before .before .before .loop .inv) (c .before .before .before .before .before .before .loop .i - 1) (omega arith) (c .before .wide2 .result) (c .before .wide2 .ensures .0))
 
 min-requires : tie.Need-min-requires Inv-loop μ-loop
 min-requires c κs = search needs
@@ -110,19 +110,19 @@ at-least-requires-2 : tie.Need-at-least-requires-2 Inv-loop μ-loop
 at-least-requires-2 c κs = search needs
 
 add-wait : tie.Need-add-wait Inv-loop μ-loop
-add-wait c = omega (arith, node-in (turn (c .before .before .before .before .before)), c .before .before .before .before .before .before .before .wide3 .ensures)
+add-wait c = omega (arith, node-in (turn (c .before .before .before .before .before)), c .before .before .before .before .before .before .before .wide2 .ensures)
 
 wide-requires-3 : tie.Need-wide-requires-3 Inv-loop μ-loop
 wide-requires-3 c κs = search needs
 
 slice-write-wait : tie.Need-slice-write-wait Inv-loop μ-loop
-slice-write-wait c = omega (arith, level-in (turn (c .before .before .before .before .before .before)) (rise (c .before .before .before)), c .wide4 .ensures)
+slice-write-wait c = omega (arith, level-in (turn (c .before .before .before .before .before .before)) (rise (c .before .before .before)), c .wide3 .ensures)
 
 loop-less-2 : tie.Need-loop-less-2 Inv-loop μ-loop
 loop-less-2 c = falls (turn (c .before .before .before .before .before .before))
 
 loop-again-2 : tie.Need-loop-again-2 Inv-loop μ-loop
-loop-again-2 c = again-waits (turn (c .before .before .before .before .before .before)) (rise (c .before .before .before)) (c .wide4 .result) (c .wide4 .ensures .0) (below (c .before))
+loop-again-2 c = again-waits (turn (c .before .before .before .before .before .before)) (rise (c .before .before .before)) (c .wide3 .result) (c .wide3 .ensures .0) (below (c .before))
 
 shared-slice-read-t25-2 : tie.Need-shared-slice-read-t25-2 Inv-loop μ-loop
 shared-slice-read-t25-2 c = omega (arith, node-in (turn (c .before .before .before .before .before .before)))
@@ -167,14 +167,14 @@ spread-spec =
     Inv-loop
     μ-loop
     wide-requires
-    mul-wide2
-    shared-slice-read-wide2
-    wide2-requires
+    mul-wide-two
+    shared-slice-read-wide-two
+    wide-two-requires
     loop-holds
     sub-p
-    mul-wide2-2
-    shared-slice-read-wide2-2
-    wide2-requires-2
+    mul-wide-two-2
+    shared-slice-read-wide-two-2
+    wide-two-requires-2
     mul-from
     shared-slice-read-from
     wide-requires-2

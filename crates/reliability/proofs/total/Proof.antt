@@ -5,10 +5,10 @@ use native.Mathlib.Nat.{mul-le-mul-right}
 use native.Mathlib.Omega.{arith}
 use lib.ListN.{getD}
 use borrow.Author.Needs.{needs}
+use Rattle.laws.specs.Sums.{sum-more, part-fits}
 use Rattle.limits.specs.Limits.{maxClass}
 use Rattle.soundness.specs.Tally.{width}
 use Rattle.reliability.specs.Calls.{rowSum, rowsSum}
-use Rattle.reliability.proofs.Sums.{sum-more, part-fits}
 use Rattle.reliability.proofs.total.Statement.{statement}
 use Rattle.reliability.proofs.total.Tie as tie
 

@@ -2,7 +2,6 @@
 use mathlib.Core.Path.{_≡_, sym, _∙_}
 use mathlib.Core.Bool.{_||_, false}
 use Prim.Native.Nat.{_+_, _*_, _≤_}
-use native.Mathlib.Nat.{mul-le-mul}
 use native.Mathlib.Omega.{arith}
 use lib.Dec.{ltb}
 use lib.ListN.{length, length-drop}
@@ -11,13 +10,13 @@ use borrow.Author.Needs.{needs}
 use Rattle.limits.specs.Limits.{maxClass}
 use Rattle.laws.specs.Parts.{tail-part}
 use Rattle.soundness.specs.Tally.{head, size1, size2, words}
-use Rattle.soundness.proofs.States.{too-short, too-large, sizes, no-cells, too-many, unfair, good}
+use Rattle.soundness.proofs.States.{cells-most, too-short, too-large, sizes, no-cells, too-many, unfair, good}
 use Rattle.soundness.proofs.check.Statement.{statement}
 use Rattle.soundness.proofs.check.Tie as tie
 
 -- both sizes as the tally has them
-both-are : (c : tie.After-wide2) → let t = c .before .before .before .before .before .before .args .tally .now in (c .before .before .wide .result ≡ size1 t) × (c .wide2 .result ≡ size2 t)
-both-are c = (c .before .before .wide .ensures .0, c .wide2 .ensures .0)
+both-are : (c : tie.After-wide-word2) → let t = c .before .before .before .before .before .before .args .tally .now in (c .before .before .wide-word .result ≡ size1 t) × (c .wide-word2 .result ≡ size2 t)
+both-are c = (c .before .before .wide-word .ensures .0, c .wide-word2 .ensures .0)
 
 small : (c : tie.Else2) → let t = c .before .before .before .before .before .before .before .args .tally .now in ltb maxClass (size1 t) || ltb maxClass (size2 t) ≡ false
 small c = let e = both-are (c .before) in rw (e .0, e .1) at (c .if2 .left)
@@ -25,13 +24,8 @@ small c = let e = both-are (c .before) in rw (e .0, e .1) at (c .if2 .left)
 few : (c : tie.Else2) → let t = c .before .before .before .before .before .before .before .args .tally .now in (size1 t ≤ maxClass) × (size2 t ≤ maxClass)
 few c = sizes (c .before .before .before .before .before .before .before .args .tally .now) (c .before .before .before .before .before .if1 .left) (small c)
 
-product : (c : tie.Else2) → (c .before .before .before .wide .result + 1) * (c .before .wide2 .result + 1) ≤ (maxClass + 1) * (maxClass + 1)
-product c =
-    let e = both-are (c .before) in
-    let f = few c in
-    let h : c .before .before .before .wide .result + 1 ≤ maxClass + 1 = omega (arith, e .0, f .0) in
-    let k : c .before .wide2 .result + 1 ≤ maxClass + 1 = omega (arith, e .1, f .1) in
-    mul-le-mul h k
+product : (c : tie.Else2) → (c .before .before .before .wide-word .result + 1) * (c .before .wide-word2 .result + 1) ≤ (maxClass + 1) * (maxClass + 1)
+product c = let e = both-are (c .before) in let f = few c in cells-most (c .before .before .before .wide-word .result) (c .before .wide-word2 .result) (omega (arith, e .0, f .0)) (omega (arith, e .1, f .1))
 
 room : (c : tie.Else3) → let t = c .before .before .before .before .before .before .before .before .args .tally .now in words (size1 t) (size2 t) ≤ length t
 room c = let e = both-are (c .before .before) in rw (e .0, e .1) at (c .if3 .left)
@@ -39,17 +33,17 @@ room c = let e = both-are (c .before .before) in rw (e .0, e .1) at (c .if3 .lef
 returns : tie.Need-returns
 returns c = sym (too-short (c .before .before .args .tally .now) (c .if1 .taken))
 
-shared-slice-read-wide : tie.Need-shared-slice-read-wide
-shared-slice-read-wide c = search needs
+shared-slice-read-wide-word : tie.Need-shared-slice-read-wide-word
+shared-slice-read-wide-word c = search needs
 
-wide-requires : tie.Need-wide-requires
-wide-requires c κs = search needs
+wide-word-requires : tie.Need-wide-word-requires
+wide-word-requires c κs = search needs
 
-shared-slice-read-wide-2 : tie.Need-shared-slice-read-wide-2
-shared-slice-read-wide-2 c = search needs
+shared-slice-read-wide-word-2 : tie.Need-shared-slice-read-wide-word-2
+shared-slice-read-wide-word-2 c = search needs
 
-wide-requires-2 : tie.Need-wide-requires-2
-wide-requires-2 c κs = search needs
+wide-word-requires-2 : tie.Need-wide-word-requires-2
+wide-word-requires-2 c κs = search needs
 
 returns-2 : tie.Need-returns-2
 returns-2 c = let e = both-are (c .before) in sym (too-large (c .before .before .before .before .before .before .before .args .tally .now) (c .before .before .before .before .before .if1 .left) (rw (e .0, e .1) at (c .if2 .taken)))
@@ -113,10 +107,10 @@ check-spec =
     tie.close
     (tie.spec
     returns
-    shared-slice-read-wide
-    wide-requires
-    shared-slice-read-wide-2
-    wide-requires-2
+    shared-slice-read-wide-word
+    wide-word-requires
+    shared-slice-read-wide-word-2
+    wide-word-requires-2
     returns-2
     add-if3
     add-if3-2
