@@ -50,11 +50,6 @@ rising-all n f r (suc l) zero h k = absurd (omega arith)
 rising-all n f r l (suc m) h k =
     ⊎-elim (λ (e : l ≡ suc m). le-of-eq (ap f e)) (λ (i : l < suc m). le-trans (rising-all n f r l m (omega arith) (omega arith)) (r m k)) (eq-or-lt-of-le h)
 
--- no cell falls as l1 or l2 grows, by any number of steps
-pub grows-all : (n1 n2 M : ℕ) (c : ℕ → ℕ → ℕ) → Grows n1 n2 M c → (l1 l2 m1 m2 : ℕ) → l1 ≤ m1 → m1 ≤ n1 → l2 ≤ m2 → m2 ≤ n2 → c l1 l2 ≤ c m1 m2
-grows-all n1 n2 M c g l1 l2 m1 m2 h1 k1 h2 k2 =
-    le-trans (rising-all n1 (λ x. c x l2) (λ x i. g .first x l2 i (omega arith)) l1 m1 h1 k1) (rising-all n2 (c m1) (λ y i. g .second m1 y k1 i) l2 m2 h2 k2)
-
 module _ (n1 n2 M p1 p2 : ℕ) (c : ℕ → ℕ → ℕ) (ok1 : p1 ≤ 1000000) (ok2 : p2 ≤ 1000000) (g : Grows n1 n2 M c) where
   abbrev row : ℕ → ℕ
   row l1 = sumTo (suc n2) (λ l2. weight p2 n2 l2 * c l1 l2)

@@ -29,10 +29,12 @@ module _ {A : Type 0} where
   list-split zero n f = ap (λ k. listTo k f) (zero-add n) ∙ list-same n f (λ i. f (0 + i)) (λ i h. ap f (sym (zero-add i)))
   list-split (suc m) n f =
       let e : suc m + n ≡ suc (m + n) = omega arith in
-      ap (λ k. listTo k f) e
-      ∙ ap (λ l. f 0 ∷ l)
-      (list-split m n (λ i. f (suc i))
-      ∙ ap (λ l. listTo m (λ i. f (suc i)) ++ l) (list-same n (λ i. f (suc (m + i))) (λ i. f (suc m + i)) (λ i h. let q : suc (m + i) ≡ suc m + i = omega arith in ap f q)))
+      let next = list-split m n (λ i. f (suc i)) in
+      let rest = list-same n (λ i. f (suc (m + i))) (λ i. f (suc m + i)) same in
+      ap (λ k. listTo k f) e ∙ ap (λ l. f 0 ∷ l) (next ∙ ap (λ l. listTo m (λ i. f (suc i)) ++ l) rest)
+    where
+      same : (i : ℕ) → i < n → f (suc (m + i)) ≡ f (suc m + i)
+      same i h = let q : suc (m + i) ≡ suc m + i = omega arith in ap f q
 
   pub list-snoc : (n : ℕ) (f : ℕ → A) → listTo n f ++ (f n ∷ []) ≡ listTo (n + 1) f
   list-snoc n f = let e : n + 0 ≡ n = omega arith in ap (λ k. listTo n f ++ (f k ∷ [])) (sym e) ∙ sym (list-split n 1 f)
