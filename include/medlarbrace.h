@@ -25,6 +25,12 @@
 extern "C" {
 #endif
 
+/* The version of this interface: the major grows where a call's parameters, its numbers or the study
+ * file change. CHANGELOG.md says what a caller edits. */
+#define MEDLARBRACE_VERSION_MAJOR 1
+#define MEDLARBRACE_VERSION_MINOR 0
+#define MEDLARBRACE_VERSION "1.0"
+
 /* Why a call refuses. */
 enum {
     MEDLARBRACE_FILE_LENGTH = 1,    /* file length outside 32 to 16,777,216 */
