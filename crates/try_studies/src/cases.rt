@@ -1,6 +1,6 @@
 // Generated studies: good ones of all sizes, and damaged ones.
-use crate::plain::num;
-use crate::plain::size_of;
+use plain_files::num;
+use plain_files::size_of;
 use trial::byte;
 use trial::pick;
 use trial::poke;

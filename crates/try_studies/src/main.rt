@@ -1,14 +1,13 @@
 // Runs the writer, opening and lookup on generated studies, good and damaged, and compares every
 // answer and every byte with a plain reading of document 01 that shares no code with the library.
 mod cases;
-mod plain;
 
 use answer::Done;
 use answer::Header;
 use answer::Opened;
 use answer::Written;
 use libc::STDOUT_FILENO;
-use plain::Judged;
+use plain_files::Judged;
 use trial::equal;
 use trial::line;
 ghost use Prim.Native.Nat.{_≤_};
@@ -60,17 +59,19 @@ fn told(file: &[u8], h: Header) -> bool
     requires { ⌜ length (now file) ≤ 10000 ⌝ }
 {
     let at = if file.len() < 32 { 0 } else { file.len() - 32 };
-    let dn = plain::trailer(file, 5);
-    let nodes = plain::piece(
+    let dn = plain_files::trailer(file, 5);
+    let nodes = plain_files::piece(
         file,
         if at < dn { 0 } else { at - dn },
-        plain::trailer(file, 0),
+        plain_files::trailer(file, 0),
     );
-    let counts = (h.nodes == plain::trailer(file, 0))
-        & (h.arcs == plain::trailer(file, 1))
-        & (h.rounds == plain::trailer(file, 2));
-    let ends = (h.source == plain::trailer(file, 3)) & (h.target == plain::trailer(file, 4));
-    let sizes = (h.n1 == plain::of_class(nodes, 1)) & (h.n2 == plain::of_class(nodes, 2));
+    let counts = (h.nodes == plain_files::trailer(file, 0))
+        & (h.arcs == plain_files::trailer(file, 1))
+        & (h.rounds == plain_files::trailer(file, 2));
+    let ends = (h.source == plain_files::trailer(file, 3))
+        & (h.target == plain_files::trailer(file, 4));
+    let sizes = (h.n1 == plain_files::of_class(nodes, 1))
+        & (h.n2 == plain_files::of_class(nodes, 2));
     counts & ends & sizes
 }
 
@@ -78,7 +79,7 @@ fn told(file: &[u8], h: Header) -> bool
 fn try_open(file: &[u8], counts: &mut [u64])
     requires { ⌜ length (now file) ≤ 10000 ⌝ }
 {
-    let want = plain::opening(file);
+    let want = plain_files::opening(file);
     let got = study::open_study(file);
     let mut right = opened(got) == want.first;
     if let Opened::Study(h) = got {
@@ -91,12 +92,12 @@ fn try_open(file: &[u8], counts: &mut [u64])
 fn try_round(file: &[u8], round: usize, counts: &mut [u64])
     requires { ⌜ length (now file) ≤ 10000 ⌝ }
 {
-    let want = plain::check(file, round);
+    let want = plain_files::check(file, round);
     let first = want.first;
     let got = done(study::check_round(file, round));
     let part = study::round_bytes(file, round);
     let bytes = if first == 0 {
-        equal(part, plain::round(file, round))
+        equal(part, plain_files::round(file, round))
     } else {
         part.len() == 0
     };
@@ -135,8 +136,8 @@ fn try_write(
     let untouched = [165u8; 8192];
     let mut out = [165u8; 8192];
     let mut want = [165u8; 8192];
-    let judgement = plain::given(nodes, arcs, rounds, s, t, total);
-    let end = plain::file(nodes, arcs, rounds, s, t, total, &mut want, 0);
+    let judgement = plain_files::given(nodes, arcs, rounds, s, t, total);
+    let end = plain_files::file(nodes, arcs, rounds, s, t, total, &mut want, 0);
     // One byte short, exactly long enough, or longer.
     let room = end + short - 1;
     let j = if (judgement.first == 0) & (room < end) {
@@ -195,7 +196,7 @@ fn try_parts(
     );
     let mut file = [0u8; 8192];
     let front = cases::some(seed, 51, 4);
-    let end = plain::file(nodes, arcs, rounds, s, t, total, &mut file, front);
+    let end = plain_files::file(nodes, arcs, rounds, s, t, total, &mut file, front);
     let length = cases::damage(seed, &mut file, end);
     try_file(&file[0..length], seed, total, opens, looks);
 }
@@ -270,7 +271,7 @@ fn edge(label: &[u8], n: usize, class: u8, k: usize, a: usize, m: usize)
         m,
         &mut out,
     ));
-    let end = plain::file(
+    let end = plain_files::file(
         &nodes[0..n],
         &arcs[0..2 * a],
         &none[0..0],

@@ -1,13 +1,13 @@
 // New, add, weights, ageing and reliability on generated tallies, good and damaged, against a plain
 // reading of document 01, counted.
-mod plain;
 
 use answer::Aged;
 use answer::Done;
 use answer::Rate;
 use answer::Rated;
 use libc::STDOUT_FILENO;
-use plain::PAST;
+use plain_tallies::HEAD;
+use plain_tallies::PAST;
 use trial::line;
 use trial::pick;
 use trial::poke;
@@ -113,7 +113,7 @@ fn cells_of(n1: u64, n2: u64) -> usize
     if n2 > 64 {
         return 0;
     }
-    plain::cells(n1 as usize, n2 as usize)
+    plain_tallies::cells(n1 as usize, n2 as usize)
 }
 
 fn new_number(n: usize, room: usize) -> u64
@@ -122,7 +122,7 @@ fn new_number(n: usize, room: usize) -> u64
     if n == 0 {
         return 6;
     }
-    if room < 3 + n { 21 } else { 0 }
+    if room < HEAD + n { 21 } else { 0 }
 }
 
 fn try_new(n1: u64, n2: u64, words: &mut [u32], counts: &mut [u64])
@@ -134,7 +134,7 @@ fn try_new(n1: u64, n2: u64, words: &mut [u32], counts: &mut [u64])
     let due = new_number(n, words.len());
     fresh(&mut want, n1, n2, n, due == 0);
     let got = number(tally::new(n1 as u32, n2 as u32, words));
-    let alike = plain::begins(&want, words);
+    let alike = plain_tallies::begins(&want, words);
     judge(counts, 0, got, (got == due) & alike);
 }
 
@@ -175,10 +175,10 @@ fn try_add(record: &[u8], words: &mut [u32], counts: &mut [u64])
 {
     let mut want = [0u32; 4240];
     copy(words, &mut want);
-    let due = plain::add_number(record, words);
-    plain::add(record, &mut want, due == 0);
+    let due = plain_tallies::add_number(record, words);
+    plain_tallies::add(record, &mut want, due == 0);
     let got = number(tally::add(record, words));
-    let alike = plain::begins(&want, words);
+    let alike = plain_tallies::begins(&want, words);
     judge(counts, 28, got, (got == due) & alike);
 }
 
@@ -250,7 +250,7 @@ fn rate_number(t: &[u32], p1: u64, p2: u64) -> u64 {
     if (p1 > 1000000) | (p2 > 1000000) {
         return 14;
     }
-    let s = plain::state(t);
+    let s = plain_tallies::state(t);
     if s != 0 {
         return s;
     }
@@ -263,9 +263,9 @@ fn sum_is(t: &[u32], p1: u64, p2: u64, s: u64) -> bool
 {
     let mut u = [0u32; 66];
     let mut v = [0u32; 66];
-    plain::weights(p1, plain::size(word(t, 0)), &mut u);
-    plain::weights(p2, plain::size(word(t, 1)), &mut v);
-    plain::sum(t, &u, &v) == s % 999999937
+    plain_tallies::weights(p1, plain_tallies::size(word(t, 0)), &mut u);
+    plain_tallies::weights(p2, plain_tallies::size(word(t, 1)), &mut v);
+    plain_tallies::sum(t, &u, &v) == s % 999999937
 }
 
 fn rate_is(k: Rate, t: &[u32], p1: u64, p2: u64) -> bool {
@@ -323,7 +323,7 @@ fn expect_weights(p: u64, n: u64, want: &mut [u32], due: bool) {
     }
     let mut w = [0u32; 70];
     let k = n as usize;
-    plain::weights(p, k, &mut w);
+    plain_tallies::weights(p, k, &mut w);
     copy(&w[0..k + 1], want)
 }
 
@@ -334,7 +334,7 @@ fn weigh(n: u64, p: u64, out: &mut [u32], counts: &mut [u64])
     let due = weights_number(n, p, out.len() as u64);
     expect_weights(p, n, &mut want, due == 0);
     let got = number(weights::weights(n as u32, p as u32, out));
-    let alike = plain::begins(&want, out);
+    let alike = plain_tallies::begins(&want, out);
     judge(counts, 84, got, (got == due) & alike);
 }
 
@@ -453,7 +453,7 @@ fn room(seed: u64, s: Size) -> usize
     if kind == 1 {
         return 2 + n;
     }
-    3 + n + pick(seed, 42, 4) as usize
+    HEAD + n + pick(seed, 42, 4) as usize
 }
 
 // A new tally, and its reliability: no rounds.
