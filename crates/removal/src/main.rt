@@ -1,16 +1,15 @@
 // The whole library on generated networks, against removal testing: opening, searches and plans,
 // every front at every (a, b) and the small ones against all paths, tallies, and reliability by
 // exact arithmetic. Then every refusal of every call.
-mod plans;
-mod slots;
 
 use answer::Opened;
 use generated::Shape;
+use joined::slots;
+use joined::slots::copy;
+use joined::slots::judge;
+use joined::slots::length_of;
+use joined::slots::tick;
 use plain::Ends;
-use slots::copy;
-use slots::judge;
-use slots::length_of;
-use slots::tick;
 use trial::byte;
 use trial::equal;
 use trial::flag;
@@ -156,7 +155,7 @@ fn try_file(
     judge(
         counts,
         slots::PLANS,
-        plans::try_plan(seed, &fronts, &tables),
+        joined::plans::try_plan(seed, &fronts, &tables),
     );
     let wrong = tallied::try_tally(seed, net.n1, net.n2, &fronts, &tables);
     judge(counts, slots::TALLIES, wrong);

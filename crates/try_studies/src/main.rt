@@ -1,6 +1,5 @@
 // Runs the writer, opening and lookup on generated studies, good and damaged, and compares every
 // answer and every byte with a plain reading of document 01 that shares no code with the library.
-mod cases;
 
 use answer::Done;
 use answer::Header;
@@ -164,7 +163,7 @@ fn try_file(file: &[u8], seed: u64, total: usize, opens: &mut [u64], looks: &mut
 {
     try_open(file, opens);
     try_round(file, 0, looks);
-    try_round(file, cases::some(seed, 52, total), looks);
+    try_round(file, made_files::some(seed, 52, total), looks);
     try_round(file, total, looks);
     try_round(file, 18446744073709551615, looks);
 }
@@ -182,8 +181,8 @@ fn try_parts(
 )
     requires { ⌜ (length (now nodes) ≤ 200) × (length (now arcs) ≤ 2100) × (length (now rounds) ≤ 4100) × (total ≤ 200000) ⌝ }
 {
-    let s = cases::end(seed, 0);
-    let t = cases::end(seed, 1);
+    let s = made_files::end(seed, 0);
+    let t = made_files::end(seed, 1);
     try_write(
         nodes,
         arcs,
@@ -191,13 +190,13 @@ fn try_parts(
         s,
         t,
         total,
-        cases::some(seed, 50, 4),
+        made_files::some(seed, 50, 4),
         writes,
     );
     let mut file = [0u8; 8192];
-    let front = cases::some(seed, 51, 4);
+    let front = made_files::some(seed, 51, 4);
     let end = plain_files::file(nodes, arcs, rounds, s, t, total, &mut file, front);
-    let length = cases::damage(seed, &mut file, end);
+    let length = made_files::damage(seed, &mut file, end);
     try_file(&file[0..length], seed, total, opens, looks);
 }
 
@@ -206,10 +205,10 @@ fn one(seed: u64, writes: &mut [u64], opens: &mut [u64], looks: &mut [u64]) {
     let mut nodes = [0u8; 256];
     let mut arcs = [0u8; 2200];
     let mut rounds = [0u8; 10240];
-    let n = cases::nodes(seed, &mut nodes);
-    let a = cases::arcs(seed, n, &mut arcs);
-    let total = cases::total(seed);
-    let r = cases::rounds(seed, &nodes[0..n], total, &mut rounds);
+    let n = made_files::nodes(seed, &mut nodes);
+    let a = made_files::arcs(seed, n, &mut arcs);
+    let total = made_files::total(seed);
+    let r = made_files::rounds(seed, &nodes[0..n], total, &mut rounds);
     try_parts(
         seed,
         &nodes[0..n],

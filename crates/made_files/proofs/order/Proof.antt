@@ -3,8 +3,8 @@ use mathlib.Core.Path.{_≡_}
 use Prim.Native.Nat.{_-_, _≤_}
 use borrow.Author.Needs.{needs}
 use lib.ListN.{length}
-use Rattle.try_studies.proofs.cases.order.Statement.{statement}
-use Rattle.try_studies.proofs.cases.order.Tie as tie
+use Rattle.made_files.proofs.order.Statement.{statement}
+use Rattle.made_files.proofs.order.Tie as tie
 
 abbrev Inv-loop : tie.InvT-loop
 Inv-loop seed nodes class out₀ start k₀ v₀ out k v = (v ≤ length nodes) × (k ≤ v) × (length out ≡ length out₀)

@@ -5,7 +5,7 @@ use trial::poke;
 ghost use Prim.Native.Nat.{_≤_};
 
 // The length written; 0 on a refusal.
-pub(crate) fn length_of(w: Written) -> usize
+pub fn length_of(w: Written) -> usize
     ensures { λ r. ⌜ r ≤ 8192 ⌝ }
 {
     match w {
@@ -20,7 +20,7 @@ pub(crate) fn length_of(w: Written) -> usize
 }
 
 // The bytes from a place of one slice to a place of another.
-pub(crate) fn copy(from: &[u8], at: usize, n: usize, to: &mut [u8], place: usize)
+pub fn copy(from: &[u8], at: usize, n: usize, to: &mut [u8], place: usize)
     requires { ⌜ (at ≤ 1000000) × (place ≤ 1000000) × (n ≤ 5000) ⌝ }
 {
     let mut i: usize = 0;
@@ -31,34 +31,34 @@ pub(crate) fn copy(from: &[u8], at: usize, n: usize, to: &mut [u8], place: usize
 }
 
 // ---- counts
-pub(crate) const WRONG: usize = 0;
+pub const WRONG: usize = 0;
 
-pub(crate) const OPENED: usize = 1;
+pub const OPENED: usize = 1;
 
-pub(crate) const SEARCHED: usize = 2;
+pub const SEARCHED: usize = 2;
 
-pub(crate) const PAIRS: usize = 3;
+pub const PAIRS: usize = 3;
 
-pub(crate) const PATHS: usize = 4;
+pub const PATHS: usize = 4;
 
-pub(crate) const PLANS: usize = 5;
+pub const PLANS: usize = 5;
 
-pub(crate) const TALLIES: usize = 6;
+pub const TALLIES: usize = 6;
 
-pub(crate) const CELLS: usize = 7;
+pub const CELLS: usize = 7;
 
-pub(crate) const RATES: usize = 8;
+pub const RATES: usize = 8;
 
-pub(crate) const AGES: usize = 9;
+pub const AGES: usize = 9;
 
-pub(crate) fn tick(counts: &mut [u64], at: usize, n: u64) {
+pub fn tick(counts: &mut [u64], at: usize, n: u64) {
     if at < counts.len() {
         counts[at] = counts[at] % 1000000000 + n % 1000000000;
     }
 }
 
 // One comparison more, and what was wrong in it.
-pub(crate) fn judge(counts: &mut [u64], at: usize, wrong: u64) {
+pub fn judge(counts: &mut [u64], at: usize, wrong: u64) {
     tick(counts, at, 1);
     tick(counts, WRONG, wrong);
 }

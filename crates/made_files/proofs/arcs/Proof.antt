@@ -3,8 +3,8 @@ use mathlib.Core.Path.{_≡_}
 use Prim.Native.Nat.{_-_, _≤_}
 use borrow.Author.Needs.{needs}
 use lib.ListN.{length}
-use Rattle.try_studies.proofs.cases.arcs.Statement.{statement}
-use Rattle.try_studies.proofs.cases.arcs.Tie as tie
+use Rattle.made_files.proofs.arcs.Statement.{statement}
+use Rattle.made_files.proofs.arcs.Tie as tie
 
 abbrev Inv-loop : tie.InvT-loop
 Inv-loop seed n out₀ a i₀ out i = (i ≤ a) × (length out ≡ length out₀)

@@ -3,8 +3,8 @@ use mathlib.Core.Path.{_≡_}
 use Prim.Native.Nat.{_-_, _≤_}
 use borrow.Author.Needs.{needs}
 use lib.ListN.{length}
-use Rattle.try_studies.proofs.cases.orders.Statement.{statement}
-use Rattle.try_studies.proofs.cases.orders.Tie as tie
+use Rattle.made_files.proofs.orders.Statement.{statement}
+use Rattle.made_files.proofs.orders.Tie as tie
 
 abbrev Inv-loop : tie.InvT-loop
 Inv-loop seed nodes total out₀ at₀ r₀ out at r = (r ≤ total) × (length out ≡ length out₀)

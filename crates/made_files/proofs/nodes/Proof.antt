@@ -1,34 +1,31 @@
--- The loop of `copy` goes up to n.
+-- The loop of `nodes` goes up to the number of nodes. The slice keeps its length.
 use mathlib.Core.Path.{_≡_}
 use Prim.Native.Nat.{_-_, _≤_}
-use lib.ListN.{length}
 use borrow.Author.Needs.{needs}
-use Rattle.removal.proofs.slots.copy.Statement.{statement}
-use Rattle.removal.proofs.slots.copy.Tie as tie
+use lib.ListN.{length}
+use Rattle.made_files.proofs.nodes.Statement.{statement}
+use Rattle.made_files.proofs.nodes.Tie as tie
 
 abbrev Inv-loop : tie.InvT-loop
-Inv-loop from at n to₀ place i₀ to i = (i ≤ n) × (length to ≡ length to₀)
+Inv-loop seed out₀ n v₀ out v = (v ≤ n) × (length out ≡ length out₀)
 
 abbrev μ-loop : tie.MeasureT-loop
-μ-loop from at n to₀ place i₀ to i = n - i
+μ-loop seed out₀ n v₀ out v = n - v
+
+count-of-requires : tie.Need-count-of-requires Inv-loop μ-loop
+count-of-requires c κs = search needs
 
 loop-holds : tie.Need-loop-holds Inv-loop μ-loop
 loop-holds c = search needs
 
-add-poke : tie.Need-add-poke Inv-loop μ-loop
-add-poke c = search needs
-
-add-byte : tie.Need-add-byte Inv-loop μ-loop
-add-byte c = search needs
-
-byte-requires : tie.Need-byte-requires Inv-loop μ-loop
-byte-requires c κs = search needs
+class-requires : tie.Need-class-requires Inv-loop μ-loop
+class-requires c κs = search needs
 
 poke-requires : tie.Need-poke-requires Inv-loop μ-loop
 poke-requires c κs = search needs
 
-add-i : tie.Need-add-i Inv-loop μ-loop
-add-i c = search needs
+add-v : tie.Need-add-v Inv-loop μ-loop
+add-v c = search needs
 
 loop-less : tie.Need-loop-less Inv-loop μ-loop
 loop-less c = search needs
@@ -42,18 +39,17 @@ same-length c = search needs
 returns : tie.Need-returns Inv-loop μ-loop
 returns c = search needs
 
-pub copy-spec : {M : Type 1} → statement M
-copy-spec =
+pub nodes-spec : {M : Type 1} → statement M
+nodes-spec =
     tie.close
     (tie.spec
     Inv-loop
     μ-loop
+    count-of-requires
     loop-holds
-    add-poke
-    add-byte
-    byte-requires
+    class-requires
     poke-requires
-    add-i
+    add-v
     loop-less
     loop-again
     same-length

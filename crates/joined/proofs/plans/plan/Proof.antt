@@ -3,8 +3,8 @@ use mathlib.Core.Path.{_≡_}
 use Prim.Native.Nat.{_-_, _≤_}
 use lib.ListN.{length}
 use borrow.Author.Needs.{needs}
-use Rattle.removal.proofs.plans.plan.Statement.{statement}
-use Rattle.removal.proofs.plans.plan.Tie as tie
+use Rattle.joined.proofs.plans.plan.Statement.{statement}
+use Rattle.joined.proofs.plans.plan.Tie as tie
 
 abbrev Inv-loop : tie.InvT-loop
 Inv-loop seed leaves fronts tables records₀ cells₀ top₀ i₀ records cells top i = (i ≤ leaves) × (top ≤ i) × (length records ≡ length records₀) × (length cells ≡ length cells₀)

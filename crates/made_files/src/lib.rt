@@ -8,7 +8,7 @@ ghost use Prim.Native.Nat.{_≤_, _<_};
 ghost use lib.ListN.{length};
 
 // A number from a seed, at most n.
-pub(crate) fn some(seed: u64, use_of: u64, n: usize) -> usize
+pub fn some(seed: u64, use_of: u64, n: usize) -> usize
     requires { ⌜ n ≤ 1000000 ⌝ }
     ensures { λ r. ⌜ r ≤ n ⌝ }
 {
@@ -71,7 +71,7 @@ fn class(seed: u64, n: usize, v: usize) -> u64
 }
 
 // Node bytes, and how many.
-pub(crate) fn nodes(seed: u64, out: &mut [u8]) -> usize
+pub fn nodes(seed: u64, out: &mut [u8]) -> usize
     ensures { λ r. ⌜ r ≤ 200 ⌝ }
 {
     let n = count_of(seed, 1, 2, 160, 20) % 200;
@@ -84,7 +84,7 @@ pub(crate) fn nodes(seed: u64, out: &mut [u8]) -> usize
 }
 
 // Arc bytes, and how many.
-pub(crate) fn arcs(seed: u64, n: usize, out: &mut [u8]) -> usize
+pub fn arcs(seed: u64, n: usize, out: &mut [u8]) -> usize
     requires { ⌜ n ≤ 200 ⌝ }
     ensures { λ r. ⌜ r ≤ 2100 ⌝ }
 {
@@ -113,7 +113,7 @@ pub(crate) fn arcs(seed: u64, n: usize, out: &mut [u8]) -> usize
 }
 
 // How many rounds.
-pub(crate) fn total(seed: u64) -> usize
+pub fn total(seed: u64) -> usize
     ensures { λ r. ⌜ r ≤ 100001 ⌝ }
 {
     count_of(seed, 20, 0, 100000, 6)
@@ -162,7 +162,7 @@ fn wrong(seed: u64, out: &mut [u8]) {
 }
 
 // Round bytes, and how many: good orders as a rule, at times a wrong byte or a wrong length.
-pub(crate) fn rounds(seed: u64, nodes: &[u8], total: usize, out: &mut [u8]) -> usize
+pub fn rounds(seed: u64, nodes: &[u8], total: usize, out: &mut [u8]) -> usize
     requires { ⌜ (length (now nodes) ≤ 200) × (total ≤ 200000) ⌝ }
     ensures { λ r. ⌜ r ≤ 4001 ⌝ }
 {
@@ -179,7 +179,7 @@ pub(crate) fn rounds(seed: u64, nodes: &[u8], total: usize, out: &mut [u8]) -> u
 }
 
 // Source or target: 0 and 1 as a rule.
-pub(crate) fn end(seed: u64, usual: usize) -> usize
+pub fn end(seed: u64, usual: usize) -> usize
     requires { ⌜ usual ≤ 1 ⌝ }
     ensures { λ r. ⌜ r ≤ 1000000 ⌝ }
 {
@@ -216,7 +216,7 @@ fn hurt(seed: u64, use_of: u64, file: &mut [u8], length: usize)
 }
 
 // Up to three damages to a file, and at times another length.
-pub(crate) fn damage(seed: u64, file: &mut [u8], length: usize) -> usize
+pub fn damage(seed: u64, file: &mut [u8], length: usize) -> usize
     requires { ⌜ length ≤ 8000 ⌝ }
     ensures { λ r. ⌜ r ≤ 8000 ⌝ }
 {

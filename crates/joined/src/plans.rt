@@ -108,7 +108,7 @@ fn leaves_of(depth: u64) -> usize
 }
 
 // A plan of eight rounds, and the cells in which it differs from removal testing.
-pub(crate) fn try_plan(seed: u64, fronts: &[u8], tables: &[u8]) -> u64 {
+pub fn try_plan(seed: u64, fronts: &[u8], tables: &[u8]) -> u64 {
     let mut records = [0u8; 1280];
     let mut cells = [0u8; 33800];
     let leaves = leaves_of(pick(seed, 5, 5));

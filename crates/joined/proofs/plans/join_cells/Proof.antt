@@ -3,8 +3,8 @@ use mathlib.Core.Path.{_≡_}
 use Prim.Native.Nat.{_-_, _≤_}
 use lib.ListN.{length}
 use borrow.Author.Needs.{needs}
-use Rattle.removal.proofs.plans.join_cells.Statement.{statement}
-use Rattle.removal.proofs.plans.join_cells.Tie as tie
+use Rattle.joined.proofs.plans.join_cells.Statement.{statement}
+use Rattle.joined.proofs.plans.join_cells.Tie as tie
 
 abbrev Inv-loop : tie.InvT-loop
 Inv-loop kind cells₀ slot at i₀ cells i = (i ≤ 4225) × (length cells ≡ length cells₀)

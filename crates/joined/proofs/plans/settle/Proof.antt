@@ -3,8 +3,8 @@ use mathlib.Core.Path.{_≡_}
 use Prim.Native.Nat.{_≤_}
 use lib.ListN.{length}
 use borrow.Author.Needs.{needs}
-use Rattle.removal.proofs.plans.settle.Statement.{statement}
-use Rattle.removal.proofs.plans.settle.Tie as tie
+use Rattle.joined.proofs.plans.settle.Statement.{statement}
+use Rattle.joined.proofs.plans.settle.Tie as tie
 
 abbrev Inv-loop : tie.InvT-loop
 Inv-loop seed i top records₀ cells₀ m₀ left₀ records cells m left = (1 ≤ m) × (m ≤ 65) × (left ≤ top) × (length records ≡ length records₀) × (length cells ≡ length cells₀)

@@ -3,8 +3,8 @@ use mathlib.Core.Path.{_≡_}
 use Prim.Native.Nat.{_-_, _≤_}
 use borrow.Author.Needs.{needs}
 use lib.ListN.{length}
-use Rattle.try_studies.proofs.cases.damage.Statement.{statement}
-use Rattle.try_studies.proofs.cases.damage.Tie as tie
+use Rattle.made_files.proofs.damage.Statement.{statement}
+use Rattle.made_files.proofs.damage.Tie as tie
 
 abbrev Inv-loop : tie.InvT-loop
 Inv-loop seed file₀ n i₀ file i = (i ≤ 3) × (length file ≡ length file₀)

@@ -1,0 +1,3 @@
+// Plans of joined fronts against removal testing, and records in slots, for the tests.
+pub mod plans;
+pub mod slots;
