@@ -1,24 +1,28 @@
 // Document 01's limits, and the sizes of the parts of a study file.
 
-// N, the nodes of a study.
+// The least N, the nodes of a study.
 pub const MIN_NODES: usize = 2;
 
+// The largest N.
 pub const MAX_NODES: usize = 160;
 
-// A, its arcs, and the bytes of each: from, to.
+// The largest A, the arcs of a study.
 pub const MAX_ARCS: usize = 1024;
 
+// The bytes of an arc: from, to.
 pub const ARC: usize = 2;
 
-// M, the rounds of a study or of a tally.
+// The largest M, the rounds of a study or of a tally.
 pub const MAX_ROUNDS: usize = 100000;
 
-// n1 and n2, the nodes of a class; and the last position, which stands for no node of it.
+// The largest n1 and n2, the nodes of a class.
 pub const MAX_CLASS: usize = 64;
 
+// The last position of a class, which stands for no node of it.
 pub const MAX_POSITION: usize = MAX_CLASS + 1;
 
-// The bytes of a file, and of its trailer: eight numbers of four bytes.
+// The most bytes of a file.
 pub const MAX_FILE: usize = 16777216;
 
+// The bytes of its trailer: eight numbers of four bytes.
 pub const TRAILER: usize = 32;
