@@ -16,7 +16,7 @@ use Rattle.front.specs.Pair.{pairOf, covers, dominates}
 use Rattle.front.specs.Front.{front, Falls, AtMost, RecordForm}
 use Rattle.front.proofs.Pairs.{Above, covers-is, dominates-is}
 use Rattle.front.proofs.Fronts.{form-short}
-use Rattle.record.specs.Record.{size1, size2, count, flat, listed, recordBytes, frontBytes, pairAt}
+use Rattle.record.specs.Record.{recordSize1, recordSize2, pairCount, flat, listed, recordBytes, frontBytes, pairAt}
 use Rattle.buffer.specs.Buffer.{recordIn, stored, Puttable}
 use Rattle.record.proofs.Bytes.{flat-length, flat-append, take-flat, pair-at, listed-length, record-whole}
 use Rattle.record.proofs.Records.{IsRecord, record-is}
@@ -69,59 +69,59 @@ module _ {b : List ℕ} {p : Pair} (q : Puttable b p) where
   l = listed r
 
   abbrev n1 : ℕ
-  n1 = size1 b
+  n1 = recordSize1 b
 
   abbrev n2 : ℕ
-  n2 = size2 b
+  n2 = recordSize2 b
 
   is : IsRecord r
   is = record-is r .0 (q .good)
 
   head : (i : ℕ) → i < 3 → getD r i 0 ≡ getD b i 0
-  head i h = getD-take (3 + 2 * count b) b i 0 (omega arith)
+  head i h = getD-take (3 + 2 * pairCount b) b i 0 (omega arith)
 
   form : RecordForm n1 n2 l
-  form = subst (λ x. RecordForm x n2 l) (head 0 (omega arith)) (subst (λ y. RecordForm (size1 r) y l) (head 1 (omega arith)) (is .form))
+  form = subst (λ x. RecordForm x n2 l) (head 0 (omega arith)) (subst (λ y. RecordForm (recordSize1 r) y l) (head 1 (omega arith)) (is .form))
 
   begins : Begins n1 n2 l b
   begins =
       record {
-        rest = drop (3 + 2 * count b) b;
-        bytes = sym (take-append-drop (3 + 2 * count b) b)
-            ∙ ap (λ x. x ++ drop (3 + 2 * count b) b) (record-whole r (is .long) ∙ ap₂ (λ x y. recordBytes x y l) (head 0 (omega arith)) (head 1 (omega arith)));
+        rest = drop (3 + 2 * pairCount b) b;
+        bytes = sym (take-append-drop (3 + 2 * pairCount b) b)
+            ∙ ap (λ x. x ++ drop (3 + 2 * pairCount b) b) (record-whole r (is .long) ∙ ap₂ (λ x y. recordBytes x y l) (head 0 (omega arith)) (head 1 (omega arith)));
       }
 
-  size : length l ≡ count b
+  size : length l ≡ pairCount b
   size = listed-length r (is .long) ∙ head 2 (omega arith)
 
-  pub few : count b ≤ maxClass + 1
+  pub few : pairCount b ≤ maxClass + 1
   few = omega (arith, size, form-short n1 n2 l form, head 0 (omega arith), is .small1)
 
   -- the pair that `put` reads
   abbrev last : Pair
   last = getD l (length l - 1) (pairOf 0 0)
 
-  last-is : 0 < count b → pairAt b (count b - 1) ≡ last
+  last-is : 0 < pairCount b → pairAt b (pairCount b - 1) ≡ last
   last-is h =
-      let i = count b - 1 in
-      let n = 3 + 2 * count b in
+      let i = pairCount b - 1 in
+      let n = 3 + 2 * pairCount b in
       sym (ap₂ pairOf (getD-take n b (3 + 2 * i) 0 (omega arith)) (getD-take n b (4 + 2 * i) 0 (omega arith))) ∙ pair-at r i (is .long) ∙ ap (λ k. getD l (k - 1) (pairOf 0 0)) (sym size)
 
-  whole : 0 < count b → take (length l - 1) l ++ (last ∷ []) ≡ l
+  whole : 0 < pairCount b → take (length l - 1) l ++ (last ∷ []) ≡ l
   whole h = snoc-of l (pairOf 0 0) (omega (arith, size))
 
   -- the record after p is stored at a place
-  after : (at : ℕ) → at ≤ count b → at ≤ maxClass → take at l ++ (p ∷ []) ≡ front n1 n2 (l ++ (p ∷ [])) → recordIn (stored b at p) ≡ frontBytes n1 n2 (l ++ (p ∷ []))
+  after : (at : ℕ) → at ≤ pairCount b → at ≤ maxClass → take at l ++ (p ∷ []) ≡ front n1 n2 (l ++ (p ∷ [])) → recordIn (stored b at p) ≡ frontBytes n1 n2 (l ++ (p ∷ []))
   after at h k e = begins-in (begins-stored begins at p (omega (arith, size)) (omega (arith, q .long))) ∙ ap (recordBytes n1 n2) e
 
-  pub wrote-first : count b ≡ 0 → recordIn (stored b 0 p) ≡ frontBytes n1 n2 (l ++ (p ∷ []))
+  pub wrote-first : pairCount b ≡ 0 → recordIn (stored b 0 p) ≡ frontBytes n1 n2 (l ++ (p ∷ []))
   wrote-first z = after 0 (omega arith) (omega arith) (none l (size ∙ z))
     where
       none : (m : List Pair) → length m ≡ 0 → p ∷ [] ≡ front n1 n2 (m ++ (p ∷ []))
       none [] e = put-first p (q .inside)
       none (x ∷ m) e = absurd (omega arith)
 
-  module _ (some : 0 < count b) where
+  module _ (some : 0 < pairCount b) where
     abbrev before : List Pair
     before = take (length l - 1) l
 
@@ -131,18 +131,18 @@ module _ {b : List ℕ} {p : Pair} (q : Puttable b p) where
     lower : p .p1 .0 ≤ last .p1 .0
     lower = q .least last (subst (λ m. last ∈ m) (whole some) (Memᴰ·append-right before here))
 
-    pub wrote-nothing : covers (pairAt b (count b - 1)) p ≡ true → recordIn b ≡ frontBytes n1 n2 (l ++ (p ∷ []))
+    pub wrote-nothing : covers (pairAt b (pairCount b - 1)) p ≡ true → recordIn b ≡ frontBytes n1 n2 (l ++ (p ∷ []))
     wrote-nothing t =
         let c = covers-is last p .0 (T-true (covers last p) .1 (sym (ap (λ x. covers x p) (last-is some)) ∙ t)) in
         begins-in begins ∙ ap (recordBytes n1 n2) (subst (λ m. m ≡ front n1 n2 (m ++ (p ∷ []))) (whole some) (put-covered before last p form-split (q .inside) lower c))
 
-    pub wrote-over : dominates p (pairAt b (count b - 1)) ≡ true → recordIn (stored b (count b - 1) p) ≡ frontBytes n1 n2 (l ++ (p ∷ []))
+    pub wrote-over : dominates p (pairAt b (pairCount b - 1)) ≡ true → recordIn (stored b (pairCount b - 1) p) ≡ frontBytes n1 n2 (l ++ (p ∷ []))
     wrote-over t =
         let c = dominates-is p last .0 (T-true (dominates p last) .1 (sym (ap (dominates p) (last-is some)) ∙ t)) in
-        after (count b - 1) (omega arith) (omega (arith, few))
+        after (pairCount b - 1) (omega arith) (omega (arith, few))
         (ap (λ k. take (k - 1) l ++ (p ∷ [])) (sym size) ∙ subst (λ m. before ++ (p ∷ []) ≡ front n1 n2 (m ++ (p ∷ []))) (whole some) (put-over before last p form-split (q .inside) lower c))
 
-    module _ (t : covers (pairAt b (count b - 1)) p ≡ false) (u : dominates p (pairAt b (count b - 1)) ≡ false) where
+    module _ (t : covers (pairAt b (pairCount b - 1)) p ≡ false) (u : dominates p (pairAt b (pairCount b - 1)) ≡ false) where
       falls : Falls last p
       falls =
           let c : AtMost p last → ⊥ = λ h. true≢false (sym (T-true (covers last p) .0 (covers-is last p .1 h)) ∙ ap (λ x. covers x p) (sym (last-is some)) ∙ t) in
@@ -150,12 +150,12 @@ module _ {b : List ℕ} {p : Pair} (q : Puttable b p) where
           let up : last .p2 .0 < p .p2 .0 = ⊎-elim (λ le. absurd (c (lower, le))) (λ lt. lt) (order (p .p2 .0) (last .p2 .0)) in
           (⊎-elim (λ le. absurd (d (le, omega arith, omega arith))) (λ lt. lt) (order (last .p1 .0) (p .p1 .0)), up)
 
-      pub room : count b ≤ maxClass
+      pub room : pairCount b ≤ maxClass
       room =
           let s = form-short n1 n2 ((before ++ (last ∷ [])) ++ (p ∷ [])) (put-form before last p form-split (q .inside) lower falls) in
           omega (arith, s, ap length (whole some), length-append (before ++ (last ∷ [])) (p ∷ []), size, head 0 (omega arith), is .small1)
 
-      pub wrote-behind : recordIn (stored b (count b) p) ≡ frontBytes n1 n2 (l ++ (p ∷ []))
+      pub wrote-behind : recordIn (stored b (pairCount b) p) ≡ frontBytes n1 n2 (l ++ (p ∷ []))
       wrote-behind =
-          after (count b) (omega arith) room
-          (ap (λ k. k ++ (p ∷ [])) (take-all (count b) l (omega (arith, size))) ∙ subst (λ m. m ++ (p ∷ []) ≡ front n1 n2 (m ++ (p ∷ []))) (whole some) (put-behind before last p form-split (q .inside) lower falls))
+          after (pairCount b) (omega arith) room
+          (ap (λ k. k ++ (p ∷ [])) (take-all (pairCount b) l (omega (arith, size))) ∙ subst (λ m. m ++ (p ∷ []) ≡ front n1 n2 (m ++ (p ∷ []))) (whole some) (put-behind before last p form-split (q .inside) lower falls))

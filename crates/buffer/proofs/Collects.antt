@@ -15,7 +15,7 @@ use Rattle.front.specs.Front.{holds, front, Within, AllWithin, RecordForm}
 use Rattle.front.proofs.Pairs.{numbers}
 use Rattle.front.proofs.Fronts.{front-are, front-form, front-holds, form-same}
 use Rattle.front.proofs.Joins.{append-within}
-use Rattle.record.specs.Record.{size1, size2, count, listed, recordBytes, frontBytes}
+use Rattle.record.specs.Record.{recordSize1, recordSize2, pairCount, listed, recordBytes, frontBytes}
 use Rattle.buffer.specs.Buffer.{recordIn, longest, Puttable}
 use Rattle.record.proofs.Bytes.{paired-flat}
 use Rattle.record.proofs.Records.{IsRecord, record-is, form-is-record}
@@ -52,7 +52,7 @@ collects-none h k e =
 module _ {n1 n2 : ℕ} {whole rest : Where} {top : ℕ} {b : List ℕ} (c : Collects n1 n2 whole rest top b) where
   -- a byte of the record's head
   head : (i : ℕ) → i < 3 → getD b i 0 ≡ getD (recordBytes n1 n2 (c .done)) i 0
-  head i h = sym (getD-take (3 + 2 * count b) b i 0 (omega arith)) ∙ ap (λ r. getD r i 0) (c .begins)
+  head i h = sym (getD-take (3 + 2 * pairCount b) b i 0 (omega arith)) ∙ ap (λ r. getD r i 0) (c .begins)
 
   listed-done : listed (recordIn b) ≡ c .done
   listed-done = ap listed (c .begins) ∙ paired-flat (c .done)
@@ -71,7 +71,7 @@ module _ {n1 n2 : ℕ} {whole rest : Where} {top : ℕ} {b : List ℕ} (c : Coll
         }
 
     -- one pair more: what `put` leaves
-    pub collects-more : {next : Where} {top′ : ℕ} {b′ : List ℕ} → length b′ ≡ longest → recordIn b′ ≡ frontBytes (size1 b) (size2 b) (listed (recordIn b) ++ (p ∷ []))
+    pub collects-more : {next : Where} {top′ : ℕ} {b′ : List ℕ} → length b′ ≡ longest → recordIn b′ ≡ frontBytes (recordSize1 b) (recordSize2 b) (listed (recordIn b) ++ (p ∷ []))
         → ((x y : ℕ) → rest x y ≡ (holdsAt p x y || next x y)) → top′ ≤ p .p1 .0 → Collects n1 n2 whole next top′ b′
     collects-more {next} {top′} {b′} l e step lower =
         let m = c .done ++ (p ∷ []) in
@@ -81,7 +81,7 @@ module _ {n1 n2 : ℕ} {whole rest : Where} {top : ℕ} {b : List ℕ} (c : Coll
           small1 = c .small1;
           small2 = c .small2;
           done = front n1 n2 m;
-          begins = e ∙ ap (λ d. frontBytes (size1 b) (size2 b) (d ++ (p ∷ []))) listed-done ∙ ap₂ (λ u v. frontBytes u v m) (head 0 (omega arith)) (head 1 (omega arith));
+          begins = e ∙ ap (λ d. frontBytes (recordSize1 b) (recordSize2 b) (d ++ (p ∷ []))) listed-done ∙ ap₂ (λ u v. frontBytes u v m) (head 0 (omega arith)) (head 1 (omega arith));
           form = front-form n1 n2 m;
           holding = λ x y.
               c .holding x y ∙ ap (λ t. holds (c .done) x y || t) (step x y) ∙ sym (or-assoc (holds (c .done) x y) (holdsAt p x y) (next x y))

@@ -8,7 +8,7 @@ use Rattle.limits.specs.Limits.{maxClass}
 use Rattle.laws.specs.Members.{_∈_}
 use Rattle.front.specs.declared.Pair.{Pair}
 use Rattle.front.specs.Front.{Within}
-use Rattle.record.specs.Record.{size1, size2, count, listed, isRecord}
+use Rattle.record.specs.Record.{recordSize1, recordSize2, pairCount, listed, isRecord}
 
 -- the most bytes that a record has: 3, and 2 for each pair, of which there are at most one more than the smaller class has nodes
 abbrev pub longest : ℕ
@@ -16,7 +16,7 @@ longest = 3 + 2 * (maxClass + 1)
 
 -- the record that a buffer begins with
 abbrev pub recordIn : List ℕ → List ℕ
-recordIn b = take (3 + 2 * count b) b
+recordIn b = take (3 + 2 * pairCount b) b
 
 -- the buffer with p stored at a place, as the last pair then
 abbrev pub stored : List ℕ → ℕ → Pair → List ℕ
@@ -26,5 +26,5 @@ stored b at p = set (set (set b 2 (at + 1)) (3 + 2 * at) (p .p1 .0)) (3 + 2 * at
 pub record Puttable (b : List ℕ) (p : Pair) : Type 0 where
   pub long : length b ≡ longest
   pub good : T (isRecord (recordIn b))
-  pub inside : Within (size1 b) (size2 b) p
+  pub inside : Within (recordSize1 b) (recordSize2 b) p
   pub least : (q : Pair) → q ∈ listed (recordIn b) → p .p1 .0 ≤ q .p1 .0

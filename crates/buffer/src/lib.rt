@@ -9,7 +9,7 @@ ghost use Prim.Native.Nat.{_≤_, _<_, _-_};
 ghost use lib.ListN.{length, replicate};
 ghost use Rattle.limits.specs.Limits.{maxClass};
 ghost use Rattle.answer.specs.Outcome.{written, fillAnswer, fillOut};
-ghost use Rattle.record.specs.Record.{size1, size2, listed, frontBytes};
+ghost use Rattle.record.specs.Record.{recordSize1, recordSize2, listed, frontBytes};
 ghost use Rattle.buffer.specs.Buffer.{longest, recordIn, stored, Puttable};
 
 // The most bytes that a record has: 3, and 2 for each pair.
@@ -41,7 +41,8 @@ fn place(buffer: &mut [u8; LONGEST], at: u8, p: Pair)
 pub fn put(buffer: &mut [u8; LONGEST], p: Pair)
     requires { ⌜ Puttable (now buffer) p ⌝ }
     ensures long { λ _. ⌜ length (now (buffer .exit)) ≡ longest ⌝ }
-    ensures front { λ _. ⌜ recordIn (now (buffer .exit)) ≡ frontBytes (size1 (now (buffer .entry))) (size2 (now (buffer .entry))) (listed (recordIn (now (buffer .entry))) ++ p ∷ []) ⌝ }
+    ensures front { λ _. ⌜ recordIn (now (buffer .exit)) ≡ frontBytes (recordSize1 (now (buffer .entry))) (recordSize2 (now (buffer .entry)))
+        (listed (recordIn (now (buffer .entry))) ++ p ∷ []) ⌝ }
 {
     let k = buffer[2];
     if k == 0 {

@@ -4,9 +4,9 @@ use mathlib.Core.List.{List}
 use Prim.Native.Nat.{ℕ}
 use native.Mathlib.Omega.{arith}
 use Rattle.front.specs.declared.Pair.{Pair}
-use Rattle.front.specs.Front.{front, holds, minima, series, parallel, RecordForm}
+use Rattle.front.specs.Front.{front, holds, minima, seriesFront, parallelFront, RecordForm}
 use Rattle.front.proofs.Fronts.{front-form, form-same}
-use Rattle.record.specs.Record.{size1, size2, listed, recordBytes, frontBytes, recordHolds}
+use Rattle.record.specs.Record.{recordSize1, recordSize2, listed, recordBytes, frontBytes, recordHolds}
 use Rattle.record.proofs.Bytes.{paired-flat, record-whole}
 use Rattle.record.proofs.Records.{record-is, form-is-record, record-few}
 use Rattle.compose.specs.Compose.{seriesBytes, parallelBytes}
@@ -35,7 +35,7 @@ module _ {n1 n2 : ℕ} where
     -- what a call writes whose pairs are the front of f's: f is `minima` for series and `union` for parallel
     module _ (f : List Pair → List Pair → List Pair) (y : List ℕ) where
       abbrev bytesBy : List ℕ
-      bytesBy = frontBytes (size1 x) (size2 x) (f (listed x) (listed y))
+      bytesBy = frontBytes (recordSize1 x) (recordSize2 x) (f (listed x) (listed y))
 
       joined-is : bytesBy ≡ frontBytes n1 n2 (f (listed x) (listed y))
       joined-is = ap₂ (λ a b. frontBytes a b (f (listed x) (listed y))) (s .one) (s .two)
@@ -63,16 +63,16 @@ module _ {n1 n2 : ℕ} where
         parallel-holds = λ a b. ap (λ r. holds r a b) (joined-lists sx union y) ∙ joins.parallel-holds n1 n2 l m wl wm a b;
         series-comm = joined-is sx minima y ∙ ap bytes (joins.series-comm n1 n2 l m wl wm) ∙ sym (joined-is sy minima x);
         parallel-comm = joined-is sx union y ∙ ap bytes (joins.parallel-comm n1 n2 l m wl wm) ∙ sym (joined-is sy union x);
-        series-assoc = joined-is (joined-sized sx minima y) minima z ∙ ap (λ r. bytes (series n1 n2 r k)) (joined-lists sx minima y) ∙ ap bytes (joins.series-assoc n1 n2 l m wl wm k wk)
-            ∙ ap (λ r. bytes (series n1 n2 l r)) (sym (joined-lists sy minima z)) ∙ sym (joined-is sx minima (seriesBytes y z));
-        parallel-assoc = joined-is (joined-sized sx union y) union z ∙ ap (λ r. bytes (parallel n1 n2 r k)) (joined-lists sx union y) ∙ ap bytes (joins.parallel-assoc n1 n2 l m wl wm k wk)
-            ∙ ap (λ r. bytes (parallel n1 n2 l r)) (sym (joined-lists sy union z)) ∙ sym (joined-is sx union (parallelBytes y z));
+        series-assoc = joined-is (joined-sized sx minima y) minima z ∙ ap (λ r. bytes (seriesFront n1 n2 r k)) (joined-lists sx minima y) ∙ ap bytes (joins.series-assoc n1 n2 l m wl wm k wk)
+            ∙ ap (λ r. bytes (seriesFront n1 n2 l r)) (sym (joined-lists sy minima z)) ∙ sym (joined-is sx minima (seriesBytes y z));
+        parallel-assoc = joined-is (joined-sized sx union y) union z ∙ ap (λ r. bytes (parallelFront n1 n2 r k)) (joined-lists sx union y) ∙ ap bytes (joins.parallel-assoc n1 n2 l m wl wm k wk)
+            ∙ ap (λ r. bytes (parallelFront n1 n2 l r)) (sym (joined-lists sy union z)) ∙ sym (joined-is sx union (parallelBytes y z));
         series-self = joined-is sx minima x ∙ ap bytes (joins.series-self n1 n2 l (form sx)) ∙ sym (whole sx);
         parallel-self = joined-is sx union x ∙ ap bytes (joins.parallel-self n1 n2 l (form sx)) ∙ sym (whole sx);
-        series-over-parallel = joined-is sx minima (parallelBytes y z) ∙ ap (λ r. bytes (series n1 n2 l r)) (joined-lists sy union z) ∙ ap bytes (joins.series-over-parallel n1 n2 l m wl wm k wk)
-            ∙ ap₂ (λ r t. bytes (parallel n1 n2 r t)) (sym (joined-lists sx minima y)) (sym (joined-lists sx minima z)) ∙ sym (joined-is (joined-sized sx minima y) union (seriesBytes x z));
-        parallel-over-series = joined-is sx union (seriesBytes y z) ∙ ap (λ r. bytes (parallel n1 n2 l r)) (joined-lists sy minima z) ∙ ap bytes (joins.parallel-over-series n1 n2 l m wl wm k wk)
-            ∙ ap₂ (λ r t. bytes (series n1 n2 r t)) (sym (joined-lists sx union y)) (sym (joined-lists sx union z)) ∙ sym (joined-is (joined-sized sx union y) minima (parallelBytes x z));
+        series-over-parallel = joined-is sx minima (parallelBytes y z) ∙ ap (λ r. bytes (seriesFront n1 n2 l r)) (joined-lists sy union z) ∙ ap bytes (joins.series-over-parallel n1 n2 l m wl wm k wk)
+            ∙ ap₂ (λ r t. bytes (parallelFront n1 n2 r t)) (sym (joined-lists sx minima y)) (sym (joined-lists sx minima z)) ∙ sym (joined-is (joined-sized sx minima y) union (seriesBytes x z));
+        parallel-over-series = joined-is sx union (seriesBytes y z) ∙ ap (λ r. bytes (parallelFront n1 n2 l r)) (joined-lists sy minima z) ∙ ap bytes (joins.parallel-over-series n1 n2 l m wl wm k wk)
+            ∙ ap₂ (λ r t. bytes (seriesFront n1 n2 r t)) (sym (joined-lists sx union y)) (sym (joined-lists sx union z)) ∙ sym (joined-is (joined-sized sx union y) minima (parallelBytes x z));
         equal = (
           λ e a b _ _. ap (λ r. recordHolds r a b) e,
           λ h. whole sx ∙ ap bytes (form-same n1 n2 l m (form sx) (form sy) .1 h) ∙ sym (whole sy),

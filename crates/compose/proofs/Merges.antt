@@ -18,7 +18,7 @@ use Rattle.front.specs.Pair.{pairOf, minPair, holdsAt}
 use Rattle.front.specs.Front.{holds, minima, Within, Falls, RecordForm}
 use Rattle.front.proofs.Pairs.{numbers, holds-is, min-holds}
 use Rattle.front.proofs.Joins.{minima-within, minima-holds, append-within}
-use Rattle.record.specs.Record.{size1, size2, count, listed, pairAt, frontBytes, isRecord}
+use Rattle.record.specs.Record.{recordSize1, recordSize2, pairCount, listed, pairAt, frontBytes, isRecord}
 use Rattle.buffer.specs.Buffer.{recordIn, longest, Puttable}
 use Rattle.record.proofs.Bytes.{pair-at, listed-length}
 use Rattle.record.proofs.Records.{record-is, record-few}
@@ -77,7 +77,7 @@ module _ (x : List ℕ) (r : T (isRecord x)) where
   pub pair-is : (i : ℕ) {p : Pair} → p ≡ pairAt x i → p ≡ at (listed x) i
   pair-is i e = e ∙ pair-at x i (record-is x .0 r .long)
 
-  pub count-is : {k : ℕ} → k ≡ count x → (k ≡ length (listed x)) × (k ≤ maxClass + 1)
+  pub count-is : {k : ℕ} → k ≡ pairCount x → (k ≡ length (listed x)) × (k ≤ maxClass + 1)
   count-is e = let u = record-is x .0 r in (e ∙ sym (listed-length x (u .long)), omega (arith, record-few x u, u .small1))
 
 -- what is known of the pair at place i of a list in record form
@@ -111,15 +111,15 @@ pub record Merging (rest : List Pair → List Pair → Where) (top : ℕ → ℕ
   pub collects : Collects n1 n2 (rest l r) (rest (drop i l) (drop j r)) (top (at l i .p1 .0) (at r j .p1 .0)) b
 
 -- a merge of two records begins
-pub merging-none : {rest : List Pair → List Pair → Where} {top : ℕ → ℕ → ℕ} {x y b : List ℕ} {u v : ℕ} → Joinable x y → u ≡ size1 x → v ≡ size2 x → b ≡ u ∷ v ∷ replicate (longest - 2) 0
-    → Merging rest top (size1 x) (size2 x) (listed x) (listed y) 0 0 b
+pub merging-none : {rest : List Pair → List Pair → Where} {top : ℕ → ℕ → ℕ} {x y b : List ℕ} {u v : ℕ} → Joinable x y → u ≡ recordSize1 x → v ≡ recordSize2 x → b ≡ u ∷ v ∷ replicate (longest - 2) 0
+    → Merging rest top (recordSize1 x) (recordSize2 x) (listed x) (listed y) 0 0 b
 merging-none {x = x} {y = y} k e f g =
     let s = record-is x .0 (k .left-is) in
     let t = record-is y .0 (k .right-is) in
-    let w = T-and (eqb (size1 x) (size1 y)) (eqb (size2 x) (size2 y)) .0 (k .same) in
+    let w = T-and (eqb (recordSize1 x) (recordSize1 y)) (eqb (recordSize2 x) (recordSize2 y)) .0 (k .same) in
     record {
       form-left = s .form;
-      form-right = rw (eqb→eq (size1 x) (size1 y) (w .0), eqb→eq (size2 x) (size2 y) (w .1)) (t .form);
+      form-right = rw (eqb→eq (recordSize1 x) (recordSize1 y) (w .0), eqb→eq (recordSize2 x) (recordSize2 y) (w .1)) (t .form);
       in-left = omega arith;
       in-right = omega arith;
       collects = collects-none (s .small1) (s .small2) (g ∙ ap₂ (λ m n. m ∷ n ∷ replicate (longest - 2) 0) e f);
@@ -127,7 +127,7 @@ merging-none {x = x} {y = y} k e f g =
 
 -- what `put` left after the pair c
 abbrev pub PutIn : List ℕ → Pair → List ℕ → Type 0
-PutIn b c b′ = (length b′ ≡ longest) × (recordIn b′ ≡ frontBytes (size1 b) (size2 b) (listed (recordIn b) ++ (c ∷ [])))
+PutIn b c b′ = (length b′ ≡ longest) × (recordIn b′ ≡ frontBytes (recordSize1 b) (recordSize2 b) (listed (recordIn b) ++ (c ∷ [])))
 
 -- ---- series
 module _ {n1 n2 : ℕ} {l r : List Pair} {i j : ℕ} {b : List ℕ} (m : Merging both min n1 n2 l r i j b) (hi : i < length l) (hj : j < length r) {p q c : Pair} (ep : p ≡ at l i) (eq : q ≡ at r j) (ec : c ≡ minPair p q) where

@@ -4,19 +4,19 @@ use mathlib.Core.List.{List, [], _∷_}
 use Prim.Native.Nat.{ℕ}
 use lib.Dec.{T, eqb}
 use Rattle.answer.specs.Outcome.{Outcome, fillAnswer, fillOut}
-use Rattle.front.specs.Front.{series, parallel}
-use Rattle.record.specs.Record.{size1, size2, listed, recordBytes, isRecord}
+use Rattle.front.specs.Front.{seriesFront, parallelFront}
+use Rattle.record.specs.Record.{recordSize1, recordSize2, listed, recordBytes, isRecord}
 
 -- the record of the series (01: row) of two records, and of their parallel (01: side)
 abbrev pub seriesBytes : List ℕ → List ℕ → List ℕ
-seriesBytes x y = recordBytes (size1 x) (size2 x) (series (size1 x) (size2 x) (listed x) (listed y))
+seriesBytes x y = recordBytes (recordSize1 x) (recordSize2 x) (seriesFront (recordSize1 x) (recordSize2 x) (listed x) (listed y))
 
 abbrev pub parallelBytes : List ℕ → List ℕ → List ℕ
-parallelBytes x y = recordBytes (size1 x) (size2 x) (parallel (size1 x) (size2 x) (listed x) (listed y))
+parallelBytes x y = recordBytes (recordSize1 x) (recordSize2 x) (parallelFront (recordSize1 x) (recordSize2 x) (listed x) (listed y))
 
 -- they agree in both class sizes
 abbrev pub sameSizes : List ℕ → List ℕ → Bool
-sameSizes x y = eqb (size1 x) (size1 y) && eqb (size2 x) (size2 y)
+sameSizes x y = eqb (recordSize1 x) (recordSize1 y) && eqb (recordSize2 x) (recordSize2 y)
 
 -- the tests of the two records
 abbrev pub recordTests : List ℕ → List ℕ → List (ℕ × Bool)

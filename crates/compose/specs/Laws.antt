@@ -6,14 +6,14 @@ use mathlib.Core.Bool.{_&&_, _||_}
 use mathlib.Core.List.{List}
 use Prim.Native.Nat.{ℕ, _+_, _≤_, min}
 use lib.Dec.{T}
-use Rattle.record.specs.Record.{size1, size2, count, isRecord, recordHolds}
+use Rattle.record.specs.Record.{recordSize1, recordSize2, pairCount, isRecord, recordHolds}
 use Rattle.compose.specs.Compose.{seriesBytes, parallelBytes}
 
 -- x is a record of the class sizes n1 and n2
 pub record Sized (n1 n2 : ℕ) (x : List ℕ) : Type 0 where
   pub is : T (isRecord x)
-  pub one : size1 x ≡ n1
-  pub two : size2 x ≡ n2
+  pub one : recordSize1 x ≡ n1
+  pub two : recordSize2 x ≡ n2
 
 -- what holds of any three records of the same class sizes
 pub record Laws (n1 n2 : ℕ) (x y z : List ℕ) : Type 0 where
@@ -38,4 +38,4 @@ pub record Laws (n1 n2 : ℕ) (x y z : List ℕ) : Type 0 where
   -- records are equal exactly when they hold at the same counts
   pub equal : (x ≡ y) ↔ ((a b : ℕ) → a ≤ n1 → b ≤ n2 → recordHolds x a b ≡ recordHolds y a b)
   -- k is at most the smaller class size, plus one
-  pub short : count x ≤ min n1 n2 + 1
+  pub short : pairCount x ≤ min n1 n2 + 1

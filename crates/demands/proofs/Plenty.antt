@@ -12,13 +12,13 @@ use Rattle.laws.specs.Members.{_∈_, here, there}
 use Rattle.laws.specs.Tests.{T-true, T-and, T-not}
 use Rattle.answer.specs.Outcome.{Outcome, success, outcome, fillTests, fillAnswer, fillOut}
 use Rattle.answer.proofs.Fills.{fill-wrote}
-use Rattle.record.specs.Record.{size1 as recordSize1, size2 as recordSize2, isRecord}
+use Rattle.record.specs.Record.{recordSize1, recordSize2, isRecord}
 use Rattle.compose.specs.Compose.{seriesBytes, parallelBytes, sameSizes, recordTests, seriesAnswer, seriesOut, parallelAnswer, parallelOut}
 use Rattle.sections.specs.File.{studyOf}
-use Rattle.network.specs.Round.{size1 as studySize1, size2 as studySize2}
+use Rattle.network.specs.Round.{studySize1, studySize2}
 use Rattle.study.specs.Calls.{roundTests}
 use Rattle.search.specs.Search.{searchBytes, searchAnswer, searchOut}
-use Rattle.soundness.specs.Tally.{head, size1, size2, rounds, words, noRoom, isSound}
+use Rattle.soundness.specs.Tally.{headWords, tallySize1, tallySize2, rounds, words, noRoom, isSound}
 use Rattle.soundness.proofs.Sounds.{sound-is}
 use Rattle.tally.specs.Calls.{newAnswer, newOut, addAnswer, addOut}
 use Rattle.tally.specs.Adds.{Tallies}
@@ -155,10 +155,10 @@ new-answer n1 n2 h k =
 module _ (x : List ℕ) {s t : List ℕ} {n1 n2 : ℕ} {rs : List (List ℕ)} (is : isRecord x ≡ true) (one : recordSize1 x ≡ n1) (two : recordSize2 x ≡ n2) (w : Tallies s t n1 n2 rs) (few : length rs < maxRounds) where
   has-room : noRoom t ≡ false
   has-room =
-      go (ltb (length t) head) (leb (size1 t) maxClass) (leb (size2 t) maxClass) (ltb (length t) (words (size1 t) (size2 t))) (le-ltb (length t) head (omega (arith, fit)))
-      (le-leb (size1 t) maxClass (w .sound .small1)) (le-leb (size2 t) maxClass (w .sound .small2)) (le-ltb (length t) (words (size1 t) (size2 t)) fit)
+      go (ltb (length t) headWords) (leb (tallySize1 t) maxClass) (leb (tallySize2 t) maxClass) (ltb (length t) (words (tallySize1 t) (tallySize2 t))) (le-ltb (length t) headWords (omega (arith, fit)))
+      (le-leb (tallySize1 t) maxClass (w .sound .small1)) (le-leb (tallySize2 t) maxClass (w .sound .small2)) (le-ltb (length t) (words (tallySize1 t) (tallySize2 t)) fit)
     where
-      fit : words (size1 t) (size2 t) ≤ length t
+      fit : words (tallySize1 t) (tallySize2 t) ≤ length t
       fit = rw (w .one, w .two, w .long) (w .room)
 
       go : (a b c d : Bool) → a ≡ false → b ≡ true → c ≡ true → d ≡ false → a || (b && c && d) ≡ false
@@ -166,8 +166,8 @@ module _ (x : List ℕ) {s t : List ℕ} {n1 n2 : ℕ} {rs : List (List ℕ)} (i
 
   add-answer : addAnswer x t ≡ success (0 ∷ [])
   add-answer =
-      go (isRecord x) (noRoom t) (isSound t) (eqb (recordSize1 x) (size1 t)) (eqb (recordSize2 x) (size2 t)) (eqb (rounds t) maxRounds) is has-room (sound-is t .1 (w .sound))
-      (eq-eqb (recordSize1 x) (size1 t) (one ∙ sym (w .one))) (eq-eqb (recordSize2 x) (size2 t) (two ∙ sym (w .two))) (ne-eqb (rounds t) maxRounds (λ e. absurd (omega (arith, e, w .many, few))))
+      go (isRecord x) (noRoom t) (isSound t) (eqb (recordSize1 x) (tallySize1 t)) (eqb (recordSize2 x) (tallySize2 t)) (eqb (rounds t) maxRounds) is has-room (sound-is t .1 (w .sound))
+      (eq-eqb (recordSize1 x) (tallySize1 t) (one ∙ sym (w .one))) (eq-eqb (recordSize2 x) (tallySize2 t) (two ∙ sym (w .two))) (ne-eqb (rounds t) maxRounds (λ e. absurd (omega (arith, e, w .many, few))))
     where
       go : (a b c d e f : Bool) → a ≡ true → b ≡ false → c ≡ true → d ≡ true → e ≡ true → f ≡ false
           → outcome ((12, not a) ∷ (21, b) ∷ (22, not c) ∷ (23, not (d && e)) ∷ (24, f) ∷ []) (0 ∷ []) ≡ success (0 ∷ [])

@@ -2,7 +2,7 @@
 use mathlib.Core.Logic.{_↔_}
 use mathlib.Core.List.{List}
 use Prim.Native.Nat.{ℕ}
-use Rattle.record.specs.Record.{size1, size2}
+use Rattle.record.specs.Record.{recordSize1, recordSize2}
 use Rattle.plan.specs.Plan.{Plan, searched, series, parallel, PlanSized}
 use Rattle.plan.specs.Calls.{Built}
 use Rattle.plan.proofs.Plans as plans
@@ -10,7 +10,7 @@ use Rattle.plan.proofs.Laws as laws
 use Rattle.plan.proofs.Told.{search-passed}
 use Rattle.sections.specs.File.{studyOf}
 use Rattle.study.specs.Calls.{roundTests}
-use Rattle.search.specs.Claims.{pathPair}
+use Rattle.network.specs.Round.{routePair}
 use Rattle.demands.specs.Terms.{PlanPasses}
 use Rattle.demands.specs.Demands.{Demand3}
 use Rattle.demands.proofs.Numbers.{none-in}
@@ -25,7 +25,7 @@ built-passes (parallel p q) x b = (built-passes p (b .0) (b .2), built-passes q 
 
 succeeds : (p : Plan) → ((x : List ℕ) × Built p x) ↔ ((n1 : ℕ) × (n2 : ℕ) × PlanSized p n1 n2 × PlanPasses p)
 succeeds p = (
-  λ b. (size1 (b .0), size2 (b .0), plans.sound p (b .0) (b .1) .sized, built-passes p (b .0) (b .1)),
+  λ b. (recordSize1 (b .0), recordSize2 (b .0), plans.sound p (b .0) (b .1) .sized, built-passes p (b .0) (b .1)),
   λ h. plan-made p (h .0) (h .1) (h .2) (h .3),
 )
 
@@ -40,7 +40,7 @@ demand3 =
       route = λ f r x b ks h.
           let none = built-passes (searched f r) x b in
           let k = plans.route f r x b ks h in
-          (pathPair (studyOf f) r ks, k .0, pair-is (studyOf f) r (good-long f r none) (good-classes f r none) ks, k .1, k .2);
+          (routePair (studyOf f) r ks, k .0, pair-is (studyOf f) r (good-long f r none) (good-classes f r none) ks, k .1, k .2);
       short = plans.short;
       row-order = laws.series-comm;
       side-order = laws.parallel-comm;

@@ -21,11 +21,11 @@ use Rattle.writer.specs.ReadBack.{ReadsBack}
 use Rattle.writer.proofs.Reading.{write-reads-back}
 use Rattle.answer.proofs.Fills.{fill-wrote}
 use Rattle.answer.proofs.Outcomes.{refused-as}
-use Rattle.network.specs.Round.{size1 as studySize1, size2 as studySize2, RoundHolds}
+use Rattle.network.specs.Round.{studySize1, studySize2, RoundHolds}
 use Rattle.search.specs.Search.{searchBytes}
 use Rattle.search.proofs.Claims.{claims}
 use Rattle.chance.specs.Chance.{sumE, scaleD}
-use Rattle.soundness.specs.Tally.{size1, size2, rounds, cell}
+use Rattle.soundness.specs.Tally.{tallySize1, tallySize2, rounds, cell}
 use Rattle.plan.specs.Calls.{Searched}
 use Rattle.plan.proofs.Told.{handed-part, search-wrote, search-passed}
 use Rattle.survival.specs.Calls.{Rating}
@@ -56,14 +56,14 @@ module _ (f : List ℕ) (r : ℕ) (x : List ℕ) (s : Searched f r x) where
   removal a b h k = rw wrote (claims f r passed .removal a b h k)
 
 -- ---- reliability
-never-above : (t : List ℕ) (p1 p2 s m r : ℕ) → Rating t p1 p2 s m r → let n1 = size1 t in let n2 = size2 t in r * rounds t * scaleD n1 n2 ≤ 10000000 * sumE n1 n2 p1 p2 (cell t)
-never-above t p1 p2 s m r a = let n = tally.rated t p1 p2 s m r a in subst (λ i. r * i * scaleD (size1 t) (size2 t) ≤ 10000000 * sumE (size1 t) (size2 t) p1 p2 (cell t)) (n .0) (n .1 .rate-low)
+never-above : (t : List ℕ) (p1 p2 s m r : ℕ) → Rating t p1 p2 s m r → let n1 = tallySize1 t in let n2 = tallySize2 t in r * rounds t * scaleD n1 n2 ≤ 10000000 * sumE n1 n2 p1 p2 (cell t)
+never-above t p1 p2 s m r a = let n = tally.rated t p1 p2 s m r a in subst (λ i. r * i * scaleD (tallySize1 t) (tallySize2 t) ≤ 10000000 * sumE (tallySize1 t) (tallySize2 t) p1 p2 (cell t)) (n .0) (n .1 .rate-low)
 
-below-by-less : (t : List ℕ) (p1 p2 s m r : ℕ) → Rating t p1 p2 s m r → let n1 = size1 t in let n2 = size2 t in
+below-by-less : (t : List ℕ) (p1 p2 s m r : ℕ) → Rating t p1 p2 s m r → let n1 = tallySize1 t in let n2 = tallySize2 t in
     10000000 * sumE n1 n2 p1 p2 (cell t) < (r + (n1 + n2) + 1) * rounds t * scaleD n1 n2
 below-by-less t p1 p2 s m r a =
     let n = tally.rated t p1 p2 s m r a in
-    subst (λ i. 10000000 * sumE (size1 t) (size2 t) p1 p2 (cell t) < (r + (size1 t + size2 t) + 1) * i * scaleD (size1 t) (size2 t)) (n .0) (n .1 .rate-high)
+    subst (λ i. 10000000 * sumE (tallySize1 t) (tallySize2 t) p1 p2 (cell t) < (r + (tallySize1 t + tallySize2 t) + 1) * i * scaleD (tallySize1 t) (tallySize2 t)) (n .0) (n .1 .rate-high)
 
 -- ---- a written study
 module _ (g : Given) (f : List ℕ) (w : Wrote g f) where

@@ -15,7 +15,7 @@ use Rattle.laws.specs.Members.{_∈_}
 use Rattle.answer.specs.Outcome.{success, refused}
 use Rattle.front.specs.declared.Pair.{Pair}
 use Rattle.front.specs.Front.{AtMost}
-use Rattle.record.specs.Record.{size1 as recordSize1, size2 as recordSize2, listed, isRecord, recordHolds}
+use Rattle.record.specs.Record.{recordSize1, recordSize2, listed, isRecord, recordHolds}
 use Rattle.compose.specs.Compose.{recordTests}
 use Rattle.orders.specs.Order.{count}
 use Rattle.slices.specs.Bytes.{partAt, Inside}
@@ -23,10 +23,10 @@ use Rattle.parts.specs.Study.{Arc, roundSize}
 use Rattle.sections.specs.File.{trailerAt, trailer, nodesOf, studyOf}
 use Rattle.study.specs.Calls.{openTests, openValues, checkTests, roundTests}
 use Rattle.writer.specs.Writer.{Given, meant, studyBytes, givenTests}
-use Rattle.network.specs.Round.{size1 as studySize1, size2 as studySize2, RoundHolds}
+use Rattle.network.specs.Round.{studySize1, studySize2, Route, RoundHolds}
 use Rattle.chance.specs.Chance.{weights, sumE, scaleD, Near}
 use Rattle.weights.specs.Calls.{weightsTests}
-use Rattle.soundness.specs.Tally.{size1 as tallySize1, size2 as tallySize2, rounds, cell, Sound}
+use Rattle.soundness.specs.Tally.{tallySize1, tallySize2, rounds, cell, Sound}
 use Rattle.tally.specs.Calls.{newTests, addTests}
 use Rattle.reliability.specs.Calls.{tallyS, rateTests}
 use Rattle.plan.specs.Plan.{Plan, searched, series, parallel, PlanHolds, PlanSized}
@@ -36,7 +36,7 @@ use Rattle.survival.specs.Counts.{Count, HoldsWith}
 use Rattle.kinds.specs.Kinds as call
 use Rattle.runs.specs.Arguments.{Block}
 use Rattle.runs.specs.Run.{at, Ends, AlwaysEnds, Keeps}
-use Rattle.demands.specs.Terms.{First, None, Refused, Answers, Fills, Leaves, SameSections, Undominated, Route, PairOf, OfRoute}
+use Rattle.demands.specs.Terms.{First, None, Refused, Answers, Fills, Leaves, SameSections, Undominated, PairOf, OfRoute}
 use Rattle.demands.specs.Terms.{RoundRecord, RowRecord, SideRecord, FreshTally, RaisedTally, PlanPasses, Wrote}
 
 pub record Demand1 : Type 0 where

@@ -8,7 +8,7 @@ use native.Mathlib.Omega.{arith}
 use Rattle.laws.specs.Members.{here, there, any-append}
 use Rattle.front.specs.declared.Pair.{Pair}
 use Rattle.front.specs.Pair.{minPair, holdsAt}
-use Rattle.front.specs.Front.{holds, front, minima, series, parallel, AllWithin, RecordForm}
+use Rattle.front.specs.Front.{holds, front, minima, seriesFront, parallelFront, AllWithin, RecordForm}
 use Rattle.front.proofs.Pairs.{numbers, min-holds}
 use Rattle.front.proofs.Fronts.{front-within, front-form, front-holds, form-same}
 
@@ -32,10 +32,10 @@ pub append-within : (n1 n2 : ℕ) (l m : List Pair) → AllWithin n1 n2 l → Al
 append-within n1 n2 l m w v p h = ⊎-elim (w p) (v p) (List·Memᴰ·append-cases l h)
 
 module _ (n1 n2 : ℕ) (l m : List Pair) (w : AllWithin n1 n2 l) (v : AllWithin n1 n2 m) (a b : ℕ) where
-  pub series-holds : holds (series n1 n2 l m) a b ≡ (holds l a b && holds m a b)
+  pub series-holds : holds (seriesFront n1 n2 l m) a b ≡ (holds l a b && holds m a b)
   series-holds = front-holds n1 n2 (minima l m) (minima-within n1 n2 l m w v) a b ∙ minima-holds l m a b
 
-  pub parallel-holds : holds (parallel n1 n2 l m) a b ≡ (holds l a b || holds m a b)
+  pub parallel-holds : holds (parallelFront n1 n2 l m) a b ≡ (holds l a b || holds m a b)
   parallel-holds = front-holds n1 n2 (l ++ m) (append-within n1 n2 l m w v) a b ∙ any-append (λ p. holdsAt p a b) l m
 
 -- ---- the laws
@@ -78,27 +78,27 @@ module _ (n1 n2 : ℕ) where
           fh l (front n1 n2 (g m k)) w (front-within n1 n2 (g m k)) a b ∙ ap (op (holds l a b)) (gh m k v u a b) ∙ law (holds l a b) (holds m a b) (holds k a b)
           ∙ ap₂ or (sym (fh l m w v a b)) (sym (fh l k w u a b)) ∙ sym (gh (F l m) (F l k) (front-within n1 n2 (f l m)) (front-within n1 n2 (f l k)) a b))
 
-  pub series-comm : (l m : List Pair) → AllWithin n1 n2 l → AllWithin n1 n2 m → series n1 n2 l m ≡ series n1 n2 m l
+  pub series-comm : (l m : List Pair) → AllWithin n1 n2 l → AllWithin n1 n2 m → seriesFront n1 n2 l m ≡ seriesFront n1 n2 m l
   series-comm = comm minima _&&_ (series-holds n1 n2) and-comm
 
-  pub parallel-comm : (l m : List Pair) → AllWithin n1 n2 l → AllWithin n1 n2 m → parallel n1 n2 l m ≡ parallel n1 n2 m l
+  pub parallel-comm : (l m : List Pair) → AllWithin n1 n2 l → AllWithin n1 n2 m → parallelFront n1 n2 l m ≡ parallelFront n1 n2 m l
   parallel-comm = comm union _||_ (parallel-holds n1 n2) or-comm
 
-  pub series-self : (l : List Pair) → RecordForm n1 n2 l → series n1 n2 l l ≡ l
+  pub series-self : (l : List Pair) → RecordForm n1 n2 l → seriesFront n1 n2 l l ≡ l
   series-self = self minima _&&_ (series-holds n1 n2) and-self
 
-  pub parallel-self : (l : List Pair) → RecordForm n1 n2 l → parallel n1 n2 l l ≡ l
+  pub parallel-self : (l : List Pair) → RecordForm n1 n2 l → parallelFront n1 n2 l l ≡ l
   parallel-self = self union _||_ (parallel-holds n1 n2) or-self
 
   module _ (l m : List Pair) (w : AllWithin n1 n2 l) (v : AllWithin n1 n2 m) (k : List Pair) (u : AllWithin n1 n2 k) where
-    pub series-assoc : series n1 n2 (series n1 n2 l m) k ≡ series n1 n2 l (series n1 n2 m k)
+    pub series-assoc : seriesFront n1 n2 (seriesFront n1 n2 l m) k ≡ seriesFront n1 n2 l (seriesFront n1 n2 m k)
     series-assoc = assoc minima _&&_ (series-holds n1 n2) l m w v k u and-assoc
 
-    pub parallel-assoc : parallel n1 n2 (parallel n1 n2 l m) k ≡ parallel n1 n2 l (parallel n1 n2 m k)
+    pub parallel-assoc : parallelFront n1 n2 (parallelFront n1 n2 l m) k ≡ parallelFront n1 n2 l (parallelFront n1 n2 m k)
     parallel-assoc = assoc union _||_ (parallel-holds n1 n2) l m w v k u or-assoc
 
-    pub series-over-parallel : series n1 n2 l (parallel n1 n2 m k) ≡ parallel n1 n2 (series n1 n2 l m) (series n1 n2 l k)
+    pub series-over-parallel : seriesFront n1 n2 l (parallelFront n1 n2 m k) ≡ parallelFront n1 n2 (seriesFront n1 n2 l m) (seriesFront n1 n2 l k)
     series-over-parallel = over minima _&&_ (series-holds n1 n2) l m w v k u union _||_ (parallel-holds n1 n2) and-or-distrib-left
 
-    pub parallel-over-series : parallel n1 n2 l (series n1 n2 m k) ≡ series n1 n2 (parallel n1 n2 l m) (parallel n1 n2 l k)
+    pub parallel-over-series : parallelFront n1 n2 l (seriesFront n1 n2 m k) ≡ seriesFront n1 n2 (parallelFront n1 n2 l m) (parallelFront n1 n2 l k)
     parallel-over-series = over union _||_ (parallel-holds n1 n2) l m w v k u minima _&&_ (series-holds n1 n2) or-and-distrib-left

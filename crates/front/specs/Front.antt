@@ -17,13 +17,13 @@ abbrev pub undominated : List Pair → Pair → Bool
 undominated l p = any (same p) l && not (any (λ q. dominates q p) l)
 
 -- every pair (x, y) with y from 1 up to m; and those for each x from n down to 1
-abbrev pub line : ℕ → ℕ → List Pair
-line x zero = []
-line x (suc y) = line x y ++ (pairOf x (suc y) ∷ [])
+abbrev pub gridLine : ℕ → ℕ → List Pair
+gridLine x zero = []
+gridLine x (suc y) = gridLine x y ++ (pairOf x (suc y) ∷ [])
 
 abbrev pub grid : ℕ → ℕ → List Pair
 grid zero m = []
-grid (suc x) m = line (suc x) m ++ grid x m
+grid (suc x) m = gridLine (suc x) m ++ grid x m
 
 -- THE FRONT of a list of pairs: its undominated pairs, each once, p1 falling. p1 is at most n1 + 1 and p2 at most n2 + 1
 abbrev pub front : ℕ → ℕ → List Pair → List Pair
@@ -35,12 +35,12 @@ minima [] m = []
 minima (p ∷ l) m = map (minPair p) m ++ minima l m
 
 -- SERIES (01: row): the undominated pairs among all pairwise minima
-abbrev pub series : ℕ → ℕ → List Pair → List Pair → List Pair
-series n1 n2 l m = front n1 n2 (minima l m)
+abbrev pub seriesFront : ℕ → ℕ → List Pair → List Pair → List Pair
+seriesFront n1 n2 l m = front n1 n2 (minima l m)
 
 -- PARALLEL (01: side): the undominated pairs of both lists together
-abbrev pub parallel : ℕ → ℕ → List Pair → List Pair → List Pair
-parallel n1 n2 l m = front n1 n2 (l ++ m)
+abbrev pub parallelFront : ℕ → ℕ → List Pair → List Pair → List Pair
+parallelFront n1 n2 l m = front n1 n2 (l ++ m)
 
 -- ---- the form in which a record lists pairs
 -- p1 lies in 1 to n1 + 1, and p2 in 1 to n2 + 1

@@ -1,4 +1,4 @@
--- Pairs of positions (document 01, "Positions, routes and the search"): the least class 1 and the least class 2 position on a path.
+-- Pairs of positions (document 01, "Positions, routes and the search"): the least class 1 and the least class 2 position on a route.
 use mathlib.Core.Bool.{Bool, not, _&&_}
 use Prim.Native.Nat.{ℕ, min}
 use lib.Dec.{leb, ltb, eqb}

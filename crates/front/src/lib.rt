@@ -1,4 +1,4 @@
-// Positions of the two classes, and the pair of a path (01: route).
+// Positions of the two classes, and the pair of a route.
 //
 // The two kinds of position are types of their own, so that a minimum or a comparison never
 // crosses classes.
@@ -10,7 +10,7 @@ pub use class2::Pos2;
 ghost use mathlib.Core.Path.{_≡_};
 ghost use Rattle.front.specs.Pair.{pairOf, minPair, covers, same, dominates, holdsAt};
 
-// The least position of each class on a path.
+// The least position of each class on a route.
 pub struct Pair {
     pub p1: Pos1,
     pub p2: Pos2,

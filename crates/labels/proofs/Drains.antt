@@ -8,15 +8,15 @@ use lib.ListN.{length, getD, set, length-set}
 use lib.Seq.{getD-set-same, getD-set-other}
 use Rattle.limits.specs.Limits.{arcSize, arcCount, maxPosition}
 use Rattle.laws.specs.Tests.{order, equal}
-use Rattle.relax.specs.Labels.{Held, held-lower, held-t, pair-first}
-use Rattle.relax.specs.State.{Graph, Chains, to, net, low, Quiet, Ripe, Why, quiet, piled, waits, left, Named, Work, Kept, Next, Still, Room, Lengths, start}
+use Rattle.relax.specs.Labels.{Walked, held-lower, held-t, pair-first}
+use Rattle.relax.specs.State.{Graph, Chains, toAt, graphNetwork, low, Quiet, Ripe, Why, quiet, piled, waits, left, Named, Work, Kept, NextLevel, Still, Room, Lengths, start}
 use Rattle.relax.proofs.Spreads.{low-less}
 
 -- ---- the same labels with another stack
 module _ {f : Graph} {a l : ℕ} {d stack wait : List ℕ} {top v i : ℕ} (w : Work f a l d stack wait top v i) where
   refit : (stack′ : List ℕ) (top′ v′ i′ : ℕ) → top′ + low l d ≤ length d
       → ((k : ℕ) → k < top′ → Ripe f a l d (getD stack′ k 0))
-      → (0 < i′ → Ripe f a l d v′ × (i′ ≤ arcCount (f .arcs)) × (to (f .arcs) (i′ - 1) ≡ v′))
+      → (0 < i′ → Ripe f a l d v′ × (i′ ≤ arcCount (f .arcs)) × (toAt (f .arcs) (i′ - 1) ≡ v′))
       → ((j : ℕ) → j < arcCount (f .arcs) → Why f l d stack wait top v i j → Why f l d stack′ wait top′ v′ i′ j)
       → Work f a l d stack′ wait top′ v′ i′
   refit stack′ top′ v′ i′ fits pile going go =
@@ -63,7 +63,7 @@ pop {f} {first} {more} ch {a} {l} {d} {stack} {wait} {top} w k is u is-u =
     go : (j : ℕ) → j < arcCount (f .arcs) → Why f l d stack wait top 0 0 j → Why f l d stack wait k u (getD first u 0) j
     go j h (quiet x) = quiet x
     go j h (piled n b e) =
-        ⊎-elim (λ le. let q : n ≡ k = omega arith in let r : to (f .arcs) j ≡ u = sym e ∙ ap (λ m. getD stack m 0) q ∙ sym is-u in left r (subst (λ x. j < getD first x 0) r (ch .head j h))) (λ lt. piled n lt e) (order k n)
+        ⊎-elim (λ le. let q : n ≡ k = omega arith in let r : toAt (f .arcs) j ≡ u = sym e ∙ ap (λ m. getD stack m 0) q ∙ sym is-u in left r (subst (λ x. j < getD first x 0) r (ch .head j h))) (λ lt. piled n lt e) (order k n)
     go j h (waits x) = waits x
     go j h (left e b) = absurd (omega arith)
 
@@ -116,10 +116,10 @@ pub record Seeking (wait : List ℕ) (l m : ℕ) : Type 0 where
   -- every level has a mark
   pub long : maxPosition + 1 ≤ length wait
 
-pub sought : {wait : List ℕ} {l m : ℕ} → Seeking wait l m → (floor : ℕ) → floor < m → (getD wait m 0 ≡ 0 → ⊥) → Next wait l floor m
+pub sought : {wait : List ℕ} {l m : ℕ} → Seeking wait l m → (floor : ℕ) → floor < m → (getD wait m 0 ≡ 0 → ⊥) → NextLevel wait l floor m
 sought s floor h n = record { none = λ c b k. s .none c (omega arith) k; found = λ _. (h, s .low, n) }
 
-pub sought-none : {wait : List ℕ} {l m : ℕ} → Seeking wait l m → (floor : ℕ) → m ≤ floor → Next wait l floor 0
+pub sought-none : {wait : List ℕ} {l m : ℕ} → Seeking wait l m → (floor : ℕ) → m ≤ floor → NextLevel wait l floor 0
 sought-none s floor h = record { none = λ c b k. s .none c (omega arith) k; found = λ z. absurd (omega arith) }
 
 pub seek-on : {wait : List ℕ} {l m : ℕ} → Seeking wait l m → 0 < m → getD wait m 0 ≡ 0 → Seeking wait l (m - 1)
@@ -131,7 +131,7 @@ seek-on {wait} {l} {m} s h e =
     }
 
 module _ {f : Graph} {a l : ℕ} {d wait : List ℕ} (w : Work f a l d [] wait 0 0 0) where
-  pub settle : {m : ℕ} → Next wait l (getD d (f .source) 0) m → m ≡ 0 → a < start f → Still f a d wait
+  pub settle : {m : ℕ} → NextLevel wait l (getD d (f .source) 0) m → m ≡ 0 → a < start f → Still f a d wait
   settle {m} n z b =
       record {
         laid = w .laid;
@@ -149,10 +149,10 @@ module _ {f : Graph} {a l : ℕ} {d wait : List ℕ} (w : Work f a l d [] wait 0
       go j (quiet x) = x
       go j (piled k h e) = absurd (omega arith)
       go j (waits x) =
-          ⊎-elim (λ le. omega arith) (λ lt. absurd (x .flag (n .none (getD d (to (f .arcs) j) 0) (omega arith) (x .below)))) (order (getD d (to (f .arcs) j) 0) (getD d (f .source) 0))
+          ⊎-elim (λ le. omega arith) (λ lt. absurd (x .flag (n .none (getD d (toAt (f .arcs) j) 0) (omega arith) (x .below)))) (order (getD d (toAt (f .arcs) j) 0) (getD d (f .source) 0))
       go j (left e h) = absurd (omega arith)
 
-  module _ {m : ℕ} (n : Next wait l (getD d (f .source) 0) m) (h : 0 < m) (p : ℕ) (is : p ≡ m) (y : ℕ) (is-y : getD wait m 0 ≡ suc y) where
+  module _ {m : ℕ} (n : NextLevel wait l (getD d (f .source) 0) m) (h : 0 < m) (p : ℕ) (is : p ≡ m) (y : ℕ) (is-y : getD wait m 0 ≡ suc y) where
     named : Named f d m y
     named = w .marked m y is-y
 
@@ -192,11 +192,11 @@ module _ {f : Graph} {a l : ℕ} {d wait : List ℕ} (w : Work f a l d [] wait 0
         go j b (piled k h e) = absurd (omega arith)
         go j b (left e h) = absurd (omega arith)
         go j b (waits x) =
-            let z = getD d (to (f .arcs) j) 0 in
+            let z = getD d (toAt (f .arcs) j) 0 in
             ⊎-elim
             (λ le.
             ⊎-elim
-            (λ e. piled 0 (omega arith) (w .laid .only y (to (f .arcs) j) (named .node) (w .laid .ends (2 * j + 1) (omega arith)) (named .full ∙ sym (x .full ∙ e)) (omega (arith, named .full, named .below))))
+            (λ e. piled 0 (omega arith) (w .laid .only y (toAt (f .arcs) j) (named .node) (w .laid .ends (2 * j + 1) (omega arith)) (named .full ∙ sym (x .full ∙ e)) (omega (arith, named .full, named .below))))
             (λ ne. waits (record { below = omega arith; full = x .full; flag = λ q. x .flag (sym (getD-set-other wait m z 0 0 ne) ∙ q) })) (equal z m))
             (λ lt. absurd (x .flag (n .none z (omega (arith, n .found h)) (x .below)))) (order z m)
 
@@ -216,7 +216,7 @@ pub joined : {a b c d e g h i j : List ℕ} → Lengths a b c d e g → Lengths 
 joined x y = record { labels = y .labels ∙ x .labels; pile = y .pile ∙ x .pile; levels = y .levels ∙ x .levels }
 
 pub flooded : {f : Graph} {first more : List ℕ} {a : ℕ} {d₀ stack₀ wait₀ d stack wait : List ℕ} {l v : ℕ} → Flooding f first more a d₀ stack₀ wait₀ d stack wait l v
-    → {d₁ stack₁ wait₁ : List ℕ} → Work f a l d₁ [] wait₁ 0 0 0 → Lengths d stack wait d₁ stack₁ wait₁ → {m : ℕ} → Next wait₁ l (getD d₁ (f .source) 0) m → 0 < m → (p : ℕ) → p ≡ m → (y : ℕ) → getD wait₁ m 0 ≡ suc y
+    → {d₁ stack₁ wait₁ : List ℕ} → Work f a l d₁ [] wait₁ 0 0 0 → Lengths d stack wait d₁ stack₁ wait₁ → {m : ℕ} → NextLevel wait₁ l (getD d₁ (f .source) 0) m → 0 < m → (p : ℕ) → p ≡ m → (y : ℕ) → getD wait₁ m 0 ≡ suc y
     → Flooding f first more a d₀ stack₀ wait₀ d₁ stack₁ (set wait₁ p 0) m y
 flooded n {d₁} {stack₁} {wait₁} w k x h p is y is-y =
     record {
@@ -229,8 +229,8 @@ flooded n {d₁} {stack₁} {wait₁} w k x h p is y is-y =
 
 -- ---- one failure fewer
 module _ {f : Graph} {a : ℕ} {d wait : List ℕ} (s : Still f (suc a) d wait) where
-  lower : Held (net f) a (λ v. getD d v 0)
-  lower = held-lower (net f) a (λ v. getD d v 0) (s .held)
+  lower : Walked (graphNetwork f) a (λ v. getD d v 0)
+  lower = held-lower (graphNetwork f) a (λ v. getD d v 0) (s .held)
 
   -- both are in: t has its capacity
   module _ (t y : ℕ) (is-t : f .target ≡ t) (is-y : getD (f .cap) t 0 ≡ y) (e : start f ≡ suc a) (h : a ≤ f .n1) where
@@ -260,7 +260,7 @@ module _ {f : Graph} {a : ℕ} {d wait : List ℕ} (s : Still f (suc a) d wait) 
           long = rw length-set (s .long);
           short = rw length-set (s .short);
           long-wait = s .long-wait;
-          held = held-t (net f) a (λ v. getD d v 0) (λ v. getD (set d t y) v 0) lower (λ v n. other v (λ q. n (q ∙ sym is-t))) (omega (arith, now, is-y, ap (λ x. getD (f .cap) x 0) is-t, ap (λ x. getD (set d t y) x 0) is-t));
+          held = held-t (graphNetwork f) a (λ v. getD d v 0) (λ v. getD (set d t y) v 0) lower (λ v n. other v (λ q. n (q ∙ sym is-t))) (omega (arith, now, is-y, ap (λ x. getD (f .cap) x 0) is-t, ap (λ x. getD (set d t y) x 0) is-t));
           early = h;
           some = pos;
           high = omega (arith, is-y, s .laid .high t (omega (arith, is-t, s .laid .t-in)));
@@ -269,7 +269,7 @@ module _ {f : Graph} {a : ℕ} {d wait : List ℕ} (s : Still f (suc a) d wait) 
           pile = pile-t;
           going = λ z. absurd (omega arith);
           marked = λ c x z. let m = s .marked c x z in absurd (omega (arith, m .some, m .label, zero-at x));
-          why = λ j b q. ⊎-elim (λ i. piled 0 (omega arith) (sym i)) (λ ne. quiet (omega (arith, other (to (f .arcs) j) ne, zero-at (to (f .arcs) j)))) (equal (to (f .arcs) j) t);
+          why = λ j b q. ⊎-elim (λ i. piled 0 (omega arith) (sym i)) (λ ne. quiet (omega (arith, other (toAt (f .arcs) j) ne, zero-at (toAt (f .arcs) j)))) (equal (toAt (f .arcs) j) t);
         }
 
   -- the node w that enters, the only one of its class 1 position
@@ -277,9 +277,9 @@ module _ {f : Graph} {a : ℕ} {d wait : List ℕ} (s : Still f (suc a) d wait) 
     enters : w < length d
     enters = omega (arith, node, s .long)
 
-    by : (j : ℕ) → j < arcCount (f .arcs) → a < getD (f .entry) (to (f .arcs) j) 0 → Quiet f d j ⊎ (w ≡ to (f .arcs) j)
+    by : (j : ℕ) → j < arcCount (f .arcs) → a < getD (f .entry) (toAt (f .arcs) j) 0 → Quiet f d j ⊎ (w ≡ toAt (f .arcs) j)
     by j b e =
-        ⊎-elim (λ le. inr (alone (to (f .arcs) j) (s .laid .ends (arcSize * j + 1) (omega arith)) (omega arith))) (λ lt. inl (s .calm j b lt)) (order (getD (f .entry) (to (f .arcs) j) 0) (suc a))
+        ⊎-elim (λ le. inr (alone (toAt (f .arcs) j) (s .laid .ends (arcSize * j + 1) (omega arith)) (omega arith))) (λ lt. inl (s .calm j b lt)) (order (getD (f .entry) (toAt (f .arcs) j) 0) (suc a))
 
     -- its label is not above that of s
     pub skipped : getD d w 0 ≤ getD d (f .source) 0 → Still f a d wait
@@ -311,7 +311,7 @@ module _ {f : Graph} {a : ℕ} {d wait : List ℕ} (s : Still f (suc a) d wait) 
           held = lower;
           early = b;
           some = omega arith;
-          high = omega (arith, g .3, pair-first (net f) w (g .0), s .laid .high w node);
+          high = omega (arith, g .3, pair-first (graphNetwork f) w (g .0), s .laid .high w node);
           at-t = s .at-t h;
           fits = omega (arith, low-less (getD d w 0) w d (omega (arith, enters)) (omega arith));
           pile = pile-w;

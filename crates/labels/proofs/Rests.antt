@@ -10,14 +10,14 @@ use Rattle.limits.specs.Limits.{maxNodes, maxPosition}
 use Rattle.laws.specs.Tests.{order}
 use Rattle.front.specs.Front.{holds}
 use Rattle.parts.specs.Study.{Arc}
-use Rattle.network.specs.Walk.{pathPairs}
+use Rattle.network.specs.Walk.{routePairs}
 use Rattle.relax.specs.Labels.{calm-hold}
-use Rattle.relax.specs.State.{Graph, Laid, net, to, Still, start}
+use Rattle.relax.specs.State.{Graph, Laid, graphNetwork, toAt, Still, start}
 use Rattle.relax.proofs.Arcs.{arcs-out}
 
-pub at-rest : {f : Graph} {a : ℕ} {d wait : List ℕ} → Still f a d wait → a ≤ f .n1 → (b : ℕ) → T (holds (pathPairs (net f)) a b) ↔ (b < getD d (f .source) 0)
+pub at-rest : {f : Graph} {a : ℕ} {d wait : List ℕ} → Still f a d wait → a ≤ f .n1 → (b : ℕ) → T (holds (routePairs (graphNetwork f)) a b) ↔ (b < getD d (f .source) 0)
 at-rest {f} {a} {d} s h =
-    calm-hold (net f) a (λ v. getD d v 0) (s .held)
+    calm-hold (graphNetwork f) a (λ v. getD d v 0) (s .held)
     (record {
       s-in = λ p. ⊎-elim (λ le. absurd (omega (arith, s .clear le (f .source)))) (λ lt. omega arith) (order (start f) a);
       at-t = λ i. s .at-t (omega (arith, i));
@@ -39,5 +39,5 @@ at-first {f} o b h k z y =
       at-t = λ c. absurd (omega arith);
       clear = λ _. z;
       marked = λ c w e. absurd (omega (arith, y c));
-      calm = λ j c e. omega (arith, z (to (f .arcs) j));
+      calm = λ j c e. omega (arith, z (toAt (f .arcs) j));
     }

@@ -8,7 +8,7 @@ ghost use mathlib.Core.List.{[], _∷_};
 ghost use Prim.Native.Nat.{_-_, _/_, _≤_, _<_, _+_};
 ghost use lib.ListN.{length};
 ghost use Rattle.limits.specs.Limits.{arcCount, maxPosition};
-ghost use Rattle.relax.specs.State.{graphOf, Chains, Work, Next, Still, Room, Lengths, start};
+ghost use Rattle.relax.specs.State.{graphOf, Chains, Work, NextLevel, Still, Room, Lengths, start};
 
 // All that a level reaches from a node, and what then waits below it: until the source has the
 // level, or nothing is left.
@@ -26,7 +26,8 @@ fn drain(
     requires work { ⌜ Work (graphOf (now arcs) (now entry) (now cap) at) (at .x .0 - 1) (at .level .0) (now label) (at .node ∷ []) (now wait) 1 0 0 ⌝ }
     requires chains { ⌜ Chains (now arcs) (now first) (now more) (arcCount (now arcs)) ⌝ }
     requires room { ⌜ (0 < at .x .0) × Room (now arcs) (now entry) (now first) (now more) (now label) (now stack) ⌝ }
-    ensures work { λ r. ⌜ Work (graphOf (now (arcs .entry)) (now (entry .entry)) (now (cap .entry)) at) (at .x .0 - 1) (at .level .0) (now (label .exit)) [] (now (wait .exit)) 0 0 0 ⌝ }
+    ensures work { λ r. ⌜ Work (graphOf (now (arcs .entry)) (now (entry .entry)) (now (cap .entry)) at) (at .x .0 - 1) (at .level .0) (now (label .exit)) []
+        (now (wait .exit)) 0 0 0 ⌝ }
     ensures long { λ r. ⌜ Lengths (now (label .entry)) (now (stack .entry)) (now (wait .entry)) (now (label .exit)) (now (stack .exit)) (now (wait .exit)) ⌝ }
 {
     stack[0] = at.node;
@@ -45,7 +46,7 @@ fn drain(
 // The largest level that waits between floor and level, or 0.
 fn next_level(wait: &[u8], level: Pos2, floor: Pos2) -> u8
     requires { ⌜ (0 < level .0) × (level .0 ≤ maxPosition) × (maxPosition + 1 ≤ length (now wait)) ⌝ }
-    ensures { λ r. ⌜ Next (now (wait .entry)) (level .0) (floor .0) r ⌝ }
+    ensures { λ r. ⌜ NextLevel (now (wait .entry)) (level .0) (floor .0) r ⌝ }
 {
     let done = level.0;
     let mut m = done - 1;
@@ -71,11 +72,13 @@ pub fn flood(
     stack: &mut [u8],
     wait: &mut [u8],
 )
-    requires work { ⌜ Work (graphOf (now arcs) (now entry) (now cap) begin) (begin .x .0 - 1) (begin .level .0) (now label) (begin .node ∷ []) (now wait) 1 0 0 ⌝ }
+    requires work { ⌜ Work (graphOf (now arcs) (now entry) (now cap) begin) (begin .x .0 - 1) (begin .level .0) (now label) (begin .node ∷ [])
+        (now wait) 1 0 0 ⌝ }
     requires begun { ⌜ (0 < begin .x .0) × (begin .x .0 ≤ start (graphOf (now arcs) (now entry) (now cap) begin)) ⌝ }
     requires chains { ⌜ Chains (now arcs) (now first) (now more) (arcCount (now arcs)) ⌝ }
     requires room { ⌜ Room (now arcs) (now entry) (now first) (now more) (now label) (now stack) ⌝ }
-    ensures still { λ r. ⌜ Still (graphOf (now (arcs .entry)) (now (entry .entry)) (now (cap .entry)) begin) (begin .x .0 - 1) (now (label .exit)) (now (wait .exit)) ⌝ }
+    ensures still { λ r. ⌜ Still (graphOf (now (arcs .entry)) (now (entry .entry)) (now (cap .entry)) begin) (begin .x .0 - 1) (now (label .exit))
+        (now (wait .exit)) ⌝ }
     ensures long { λ r. ⌜ Lengths (now (label .entry)) (now (stack .entry)) (now (wait .entry)) (now (label .exit)) (now (stack .exit)) (now (wait .exit)) ⌝ }
 {
     let mut level = begin.level;

@@ -2,7 +2,8 @@
 use mathlib.Core.Path.{_≡_, refl, sym, ap, ap₂, _∙_, subst}
 use mathlib.Core.Logic.{_↔_, inl, inr, ⊎-elim}
 use mathlib.Core.Bool.{Bool, true, false, not, _&&_, _||_, cond, or-assoc}
-use mathlib.Core.List.{List, [], _∷_, _++_, append-nil, append-assoc, map, List·Memᴰ, List·Memᴰ·head, List·Memᴰ·tail, List·Memᴰ·append-cases, Memᴰ·append-left, Memᴰ·append-right, Memᴰ·cast}
+use mathlib.Core.List.{List, [], _∷_, _++_, append-nil, append-assoc, map}
+use mathlib.Core.List.{List·Memᴰ, List·Memᴰ·head, List·Memᴰ·tail, List·Memᴰ·append-cases, Memᴰ·append-left, Memᴰ·append-right, Memᴰ·cast}
 use Prim.Native.Nat.{ℕ, zero, suc, _≤_, _<_}
 use native.Mathlib.Omega.{arith}
 use lib.Dec.{T, eqb, eqb→eq, eqb-refl}
@@ -120,21 +121,21 @@ map-same f g (x ∷ l) h = ap₂ _∷_ (h x here) (map-same f g l (λ y m. h y (
 
 -- ---- the lists that f gives for the members, one after another
 module _ {A B : Type 0} (f : A → List B) where
-  abbrev pub each : List A → List B
-  each [] = []
-  each (x ∷ xs) = f x ++ each xs
+  abbrev pub concatMap : List A → List B
+  concatMap [] = []
+  concatMap (x ∷ xs) = f x ++ concatMap xs
 
-  pub each-snoc : (l : List A) (x : A) → each (l ++ (x ∷ [])) ≡ each l ++ f x
-  each-snoc [] x = append-nil (f x)
-  each-snoc (y ∷ l) x = ap (λ z. f y ++ z) (each-snoc l x) ∙ sym (append-assoc (f y) (each l) (f x))
+  pub concatMap-snoc : (l : List A) (x : A) → concatMap (l ++ (x ∷ [])) ≡ concatMap l ++ f x
+  concatMap-snoc [] x = append-nil (f x)
+  concatMap-snoc (y ∷ l) x = ap (λ z. f y ++ z) (concatMap-snoc l x) ∙ sym (append-assoc (f y) (concatMap l) (f x))
 
-  pub each-out : (l : List A) {y : B} → y ∈ each l → (x : A) × (x ∈ l) × (y ∈ f x)
-  each-out (x ∷ xs) h = ⊎-elim (λ k. (x, here, k)) (λ k. let r = each-out xs k in (r .0, there (r .1), r .2)) (List·Memᴰ·append-cases (f x) h)
-  each-out [] h = elim h [ ]
+  pub concatMap-out : (l : List A) {y : B} → y ∈ concatMap l → (x : A) × (x ∈ l) × (y ∈ f x)
+  concatMap-out (x ∷ xs) h = ⊎-elim (λ k. (x, here, k)) (λ k. let r = concatMap-out xs k in (r .0, there (r .1), r .2)) (List·Memᴰ·append-cases (f x) h)
+  concatMap-out [] h = elim h [ ]
 
-  pub each-in : {l : List A} {x : A} {y : B} → x ∈ l → y ∈ f x → y ∈ each l
-  each-in {y = y} (List·Memᴰ·head {x = z} {xs = zs} e) h = Memᴰ·append-left (each zs) (subst (λ w. y ∈ f w) e h)
-  each-in (List·Memᴰ·tail {x = z} m) h = Memᴰ·append-right (f z) (each-in m h)
+  pub concatMap-in : {l : List A} {x : A} {y : B} → x ∈ l → y ∈ f x → y ∈ concatMap l
+  concatMap-in {y = y} (List·Memᴰ·head {x = z} {xs = zs} e) h = Memᴰ·append-left (concatMap zs) (subst (λ w. y ∈ f w) e h)
+  concatMap-in (List·Memᴰ·tail {x = z} m) h = Memᴰ·append-right (f z) (concatMap-in m h)
 
 -- ---- lists of numbers
 abbrev pub member : ℕ → List ℕ → Bool

@@ -60,8 +60,7 @@ module _ {A : Type 0} where
     pairwise-same strict [] [] p q to from = refl
     pairwise-same strict [] (y ∷ m) p q to from = elim (from y here) [ ]
     pairwise-same strict (x ∷ l) [] p q to from = elim (to x here) [ ]
-    pairwise-same strict (x ∷ l) (y ∷ m) p q to from =
-        ap₂ _∷_ heads (pairwise-same strict l m (p .1) (q .1) (λ z h. rest l m p heads z h (to z (there h))) (λ z h. rest m l q (sym heads) z h (from z (there h))))
+    pairwise-same strict (x ∷ l) (y ∷ m) p q to from = ap₂ _∷_ heads (pairwise-same strict l m (p .1) (q .1) on back)
       where
         heads : x ≡ y
         heads = first (to x here) (from y here)
@@ -75,3 +74,9 @@ module _ {A : Type 0} where
         rest : {u v : A} (k j : List A) → Pairwise R (u ∷ k) → u ≡ v → (z : A) → z ∈ k → z ∈ v ∷ j → z ∈ j
         rest k j r e z h (List·Memᴰ·tail n) = n
         rest {u} {v} k j r e z h (List·Memᴰ·head i) = let s : R u u = subst (R u) (i ∙ sym e) (r .0 z h) in absurd (strict u u s s)
+
+        on : (z : A) → z ∈ l → z ∈ m
+        on z h = rest l m p heads z h (to z (there h))
+
+        back : (z : A) → z ∈ m → z ∈ l
+        back z h = rest m l q (sym heads) z h (from z (there h))

@@ -18,7 +18,8 @@ module _ {A : Type 0} where
   drop-two l n d h =
       let e : n + 1 ≡ suc n = omega arith in
       let f : n + 2 ≡ suc (n + 1) = omega arith in
-      drop-cons l n d (omega arith) ∙ ap (λ r. getD l n d ∷ r) (ap (λ k. drop k l) (sym e) ∙ drop-cons l (n + 1) d h ∙ ap (λ k. getD l (n + 1) d ∷ drop k l) (sym f))
+      let g = ap (λ k. drop k l) (sym e) ∙ drop-cons l (n + 1) d h ∙ ap (λ k. getD l (n + 1) d ∷ drop k l) (sym f) in
+      drop-cons l n d (omega arith) ∙ ap (λ r. getD l n d ∷ r) g
 
   -- a part that reaches to the end
   pub tail-part : (l : List A) (n : ℕ) → take (length l - n) (drop n l) ≡ drop n l

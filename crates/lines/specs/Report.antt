@@ -6,59 +6,56 @@ use Prim.Native.Nat.{ℕ, zero, suc, _+_, _-_, _*_, _≤_, _<_, min}
 use lib.Dec.{ltb}
 use lib.ListN.{length, getD, take, drop, replicate}
 use Rattle.answer.specs.Outcome.{Outcome, success, refused}
-use Rattle.study.specs.Calls.{openAnswer}
+use Rattle.study.specs.Calls.{openedRounds, openedSize1, openedSize2, openAnswer}
 use Rattle.search.specs.Search.{searchBytes, searchAnswer}
 use Rattle.buffer.specs.Buffer.{longest}
-use Rattle.soundness.specs.Tally.{head, size2, width, largest}
+use Rattle.soundness.specs.Tally.{headWords, tallySize2, width, largest}
 use Rattle.tally.specs.Calls.{newOut, addOut}
 use Rattle.lines.specs.Text.{sizesLine, frontLine, countLine, refusedLine}
 
 -- the row of a tally for l1
-abbrev pub row : List ℕ → ℕ → List ℕ
-row t l1 = take (width (size2 t)) (drop (head + l1 * width (size2 t)) t)
+abbrev pub tallyRow : List ℕ → ℕ → List ℕ
+tallyRow t l1 = take (width (tallySize2 t)) (drop (headWords + l1 * width (tallySize2 t)) t)
 
 -- the counts from l1 on, k lines
 abbrev pub countLines : ℕ → ℕ → List ℕ → List (List ℕ)
 countLines zero l1 t = []
-countLines (suc k) l1 t = countLine l1 (row t l1) ∷ countLines k (suc l1) t
+countLines (suc k) l1 t = countLine l1 (tallyRow t l1) ∷ countLines k (suc l1) t
 
 -- what follows an answer: of a refusal, or of a success
-abbrev pub either : {A : Type 0} → Outcome → (ℕ → A) → (List ℕ → A) → A
-either (refused n) g h = g n
-either (success v) g h = h v
+abbrev pub byAnswer : {A : Type 0} → Outcome → (ℕ → A) → (List ℕ → A) → A
+byAnswer (refused n) g h = g n
+byAnswer (success v) g h = h v
 
 -- the tally t once the first r rounds are added
-abbrev pub tallied : List ℕ → List ℕ → ℕ → List ℕ
-tallied f t zero = t
-tallied f t (suc r) = addOut (searchBytes f r) (tallied f t r)
+abbrev pub tallyAfter : List ℕ → List ℕ → ℕ → List ℕ
+tallyAfter f t zero = t
+tallyAfter f t (suc r) = addOut (searchBytes f r) (tallyAfter f t r)
 
 -- the search of round r, with room for any record
-abbrev pub searched : List ℕ → ℕ → Outcome
-searched f r = searchAnswer f r longest
+abbrev pub roundAnswer : List ℕ → ℕ → Outcome
+roundAnswer f r = searchAnswer f r longest
 
 -- the line of round r, and the tally after it
 abbrev pub roundLine : List ℕ → ℕ → List ℕ
-roundLine f r = either (searched f r) refusedLine (λ v. frontLine r (searchBytes f r))
+roundLine f r = byAnswer (roundAnswer f r) refusedLine (λ v. frontLine r (searchBytes f r))
 
 abbrev pub roundTally : List ℕ → ℕ → List ℕ → List ℕ
-roundTally f r t = either (searched f r) (λ n. t) (λ v. addOut (searchBytes f r) t)
+roundTally f r t = byAnswer (roundAnswer f r) (λ n. t) (λ v. addOut (searchBytes f r) t)
 
 -- the fronts from round r on, k of them, and then the counts; a bad round ends the report
 abbrev pub roundLines : List ℕ → List ℕ → ℕ → ℕ → ℕ → List (List ℕ)
-roundLines f t n1 zero r = countLines (n1 + 1) 0 (tallied f t r)
-roundLines f t n1 (suc k) r = roundLine f r ∷ either (searched f r) (λ n. []) (λ v. roundLines f t n1 k (suc r))
+roundLines f t n1 zero r = countLines (n1 + 1) 0 (tallyAfter f t r)
+roundLines f t n1 (suc k) r = roundLine f r ∷ byAnswer (roundAnswer f r) (λ n. []) (λ v. roundLines f t n1 k (suc r))
 
--- N, A, M, s, t, n1, n2 of a study: what the report takes of them
-abbrev pub roundsOf : List ℕ → ℕ
-roundsOf v = getD v 2 0
-
+-- from here on v is what opening answers: N, A, M, s, t, n1, n2
 -- a new tally, in as many words as any has
 abbrev pub freshFor : List ℕ → List ℕ
-freshFor v = newOut (getD v 5 0) (getD v 6 0) (replicate largest 0)
+freshFor v = newOut (openedSize1 v) (openedSize2 v) (replicate largest 0)
 
 -- the lines of an open study
 abbrev pub openLines : List ℕ → List ℕ → List (List ℕ)
-openLines f v = sizesLine (getD v 5 0) (getD v 6 0) (roundsOf v) ∷ roundLines f (freshFor v) (getD v 5 0) (roundsOf v) 0
+openLines f v = sizesLine (openedSize1 v) (openedSize2 v) (openedRounds v) ∷ roundLines f (freshFor v) (openedSize1 v) (openedRounds v) 0
 
 -- the most bytes that the report reads
 abbrev pub maxInput : ℕ
@@ -70,7 +67,7 @@ reportOpens f = cond (ltb maxInput (length f)) (refused 1) (openAnswer f)
 
 -- THE REPORT, line by line and whole
 abbrev pub reportLines : List ℕ → List (List ℕ)
-reportLines f = either (reportOpens f) (λ n. refusedLine n ∷ []) (openLines f)
+reportLines f = byAnswer (reportOpens f) (λ n. refusedLine n ∷ []) (openLines f)
 
 abbrev pub joined : List (List ℕ) → List ℕ
 joined [] = []
@@ -94,10 +91,10 @@ pub record Due (f v : List ℕ) (i : ℕ) (t : List ℕ) : Type 0 where
   -- there is such a line
   pub line : i < length (reportLines f)
   -- the tally has the rounds whose lines stand before it
-  pub tally : t ≡ tallied f (freshFor v) (min (i - 1) (roundsOf v))
+  pub tally : t ≡ tallyAfter f (freshFor v) (min (i - 1) (openedRounds v))
 
 -- after line i: whether another follows, and is due with the tally t
-pub record Next (f v : List ℕ) (i : ℕ) (b : Bool) (t : List ℕ) : Type 0 where
+pub record NextLine (f v : List ℕ) (i : ℕ) (b : Bool) (t : List ℕ) : Type 0 where
   pub more : b ≡ ltb (i + 1) (length (reportLines f))
   pub due : b ≡ true → Due f v (i + 1) t
 

@@ -1,3 +1,3 @@
-pub mod Paths
+pub mod Routes
 pub mod Rounds
 pub mod Same

@@ -1,4 +1,4 @@
--- A round's front: exactly the undominated pairs of its paths, and it holds where direct removal finds the round joined.
+-- A round's front: exactly the undominated pairs of its routes, and it holds where direct removal finds the round joined.
 use mathlib.Core.Path.{_≡_, sym, subst}
 use mathlib.Core.Logic.{_↔_, ⊎-elim}
 use mathlib.Core.Bool.{Bool, true, false, cond}
@@ -16,25 +16,25 @@ use Rattle.front.proofs.Fronts.{front-are, front-holds, under-front}
 use Rattle.orders.specs.Order.{order1, order2, position}
 use Rattle.orders.proofs.Places.{position-first}
 use Rattle.parts.specs.Study.{Arc, Study}
-use Rattle.network.specs.Walk.{Network, Walk, Path, visits, pairOn, paths, pathPairs}
-use Rattle.network.specs.Round.{size1, size2, roundAt, works, RoundHolds, capacity, roundNetwork, roundFront}
-use Rattle.network.proofs.Paths.{paths-are, straighten}
+use Rattle.network.specs.Walk.{Network, Walk, RouteFrom, visits, pairOn, routes, routePairs}
+use Rattle.network.specs.Round.{studySize1, studySize2, roundAt, works, RoundHolds, capacity, roundNetwork, roundFront}
+use Rattle.network.proofs.Routes.{routes-are, straighten}
 
--- ---- the pairs of paths, and where they hold
-pub pairs-in : (net : Network) (ks : List Arc) → Path (net .arcs) (net .source) (net .target) ks → pairOn net (net .source) ks ∈ pathPairs net
-pairs-in net ks h = Memᴰ·map (pairOn net (net .source)) (paths-are net ks .1 h)
+-- ---- the pairs of routes, and where they hold
+pub pairs-in : (net : Network) (ks : List Arc) → RouteFrom (net .arcs) (net .source) (net .target) ks → pairOn net (net .source) ks ∈ routePairs net
+pairs-in net ks h = Memᴰ·map (pairOn net (net .source)) (routes-are net ks .1 h)
 
-pub pairs-out : (net : Network) (p : Pair) → p ∈ pathPairs net → (ks : List Arc) × Path (net .arcs) (net .source) (net .target) ks × (pairOn net (net .source) ks ≡ p)
-pairs-out net p h = let m = Memᴰ·of-map (pairOn net (net .source)) (paths net) h in (m .0, paths-are net (m .0) .0 (m .1), m .2)
+pub pairs-out : (net : Network) (p : Pair) → p ∈ routePairs net → (ks : List Arc) × RouteFrom (net .arcs) (net .source) (net .target) ks × (pairOn net (net .source) ks ≡ p)
+pairs-out net p h = let m = Memᴰ·of-map (pairOn net (net .source)) (routes net) h in (m .0, routes-are net (m .0) .0 (m .1), m .2)
 
 -- some walk from source to target holds at (a, b)
 abbrev pub Joined : Network → ℕ → ℕ → Type 0
 Joined net a b = (ks : List Arc) × Walk (net .arcs) (net .source) (net .target) ks × T (holdsAt (pairOn net (net .source) ks) a b)
 
-pub pairs-hold : (net : Network) (a b : ℕ) → T (holds (pathPairs net) a b) ↔ Joined net a b
+pub pairs-hold : (net : Network) (a b : ℕ) → T (holds (routePairs net) a b) ↔ Joined net a b
 pairs-hold net a b = (
   λ t.
-      let m = any-out (λ p. holdsAt p a b) (pathPairs net) t in
+      let m = any-out (λ p. holdsAt p a b) (routePairs net) t in
       let r = pairs-out net (m .0) (m .1) in
       (r .0, r .1 .0, subst (λ (p : Pair). T (holdsAt p a b)) (sym (r .2)) (m .2)),
   λ j.
@@ -91,52 +91,52 @@ module _ (net : Network) (n1 n2 : ℕ) (node-in : (v : ℕ) → Within n1 n2 (ne
   walk-within u [] = node-in u
   walk-within u (k ∷ ks) = omega (arith, node-in u, arc-in (k .place), walk-within (k .to) ks)
 
-  pub pairs-within : AllWithin n1 n2 (pathPairs net)
+  pub pairs-within : AllWithin n1 n2 (routePairs net)
   pairs-within p m = let x = pairs-out net p m in subst (Within n1 n2) (x .2) (walk-within (net .source) (x .0))
 
 -- ---- a round
-module _ (st : Study) (r : ℕ) (long : length (roundAt st r) ≤ size1 st + size2 st) where
-  inside : AllWithin (size1 st) (size2 st) (pathPairs (roundNetwork st r))
+module _ (st : Study) (r : ℕ) (long : length (roundAt st r) ≤ studySize1 st + studySize2 st) where
+  inside : AllWithin (studySize1 st) (studySize2 st) (routePairs (roundNetwork st r))
   inside =
-      pairs-within (roundNetwork st r) (size1 st) (size2 st)
-      (λ v. capacity-within (size1 st) (size2 st) (getD (st .classes) v 0) (order1 (st .classes) (roundAt st r)) (order2 (st .classes) (roundAt st r)) v
-      (omega (arith, length-take (size1 st) (roundAt st r))) (omega (arith, length-drop (size1 st) (roundAt st r))))
+      pairs-within (roundNetwork st r) (studySize1 st) (studySize2 st)
+      (λ v. capacity-within (studySize1 st) (studySize2 st) (getD (st .classes) v 0) (order1 (st .classes) (roundAt st r)) (order2 (st .classes) (roundAt st r)) v
+      (omega (arith, length-take (studySize1 st) (roundAt st r))) (omega (arith, length-drop (studySize1 st) (roundAt st r))))
       (λ i. omega arith)
 
-  -- THE FRONT is exactly the pairs of paths that no path's pair dominates
-  pub front-paths : (p : Pair)
+  -- THE FRONT is exactly the pairs of routes that no route's pair dominates
+  pub front-routes : (p : Pair)
       → (p ∈ roundFront st r)
-      ↔ (((ks : List Arc) × Path (st .arcs) (st .source) (st .target) ks × (pairOn (roundNetwork st r) (st .source) ks ≡ p))
-      × ((ks : List Arc) → Path (st .arcs) (st .source) (st .target) ks → T (dominates (pairOn (roundNetwork st r) (st .source) ks) p) → ⊥))
-  front-paths p =
+      ↔ (((ks : List Arc) × RouteFrom (st .arcs) (st .source) (st .target) ks × (pairOn (roundNetwork st r) (st .source) ks ≡ p))
+      × ((ks : List Arc) → RouteFrom (st .arcs) (st .source) (st .target) ks → T (dominates (pairOn (roundNetwork st r) (st .source) ks) p) → ⊥))
+  front-routes p =
       let n = roundNetwork st r in
-      let f = front-are (size1 st) (size2 st) (pathPairs n) inside p in (
+      let f = front-are (studySize1 st) (studySize2 st) (routePairs n) inside p in (
         λ h. (pairs-out n p (f .0 h .0), λ ks o. f .0 h .1 (pairOn n (st .source) ks) (pairs-in n ks o)),
         λ h. f .1 (Memᴰ·cast (sym (h .0 .2)) (pairs-in n (h .0 .0) (h .0 .1)), λ q m d. let x = pairs-out n q m in h .1 (x .0) (x .1) (subst (λ (v : Pair). T (dominates v p)) (sym (x .2)) d)),
       )
 
-  -- every path has a pair in the front at least as large in both numbers
-  pub path-under : (ks : List Arc) → Path (st .arcs) (st .source) (st .target) ks → (q : Pair) × (q ∈ roundFront st r) × AtMost (pairOn (roundNetwork st r) (st .source) ks) q
-  path-under ks h = under-front (size1 st) (size2 st) (pathPairs (roundNetwork st r)) inside (pairOn (roundNetwork st r) (st .source) ks) (pairs-in (roundNetwork st r) ks h)
+  -- every route has a pair in the front at least as large in both numbers
+  pub route-under : (ks : List Arc) → RouteFrom (st .arcs) (st .source) (st .target) ks → (q : Pair) × (q ∈ roundFront st r) × AtMost (pairOn (roundNetwork st r) (st .source) ks) q
+  route-under ks h = under-front (studySize1 st) (studySize2 st) (routePairs (roundNetwork st r)) inside (pairOn (roundNetwork st r) (st .source) ks) (pairs-in (roundNetwork st r) ks h)
 
   -- the front holds exactly where direct removal finds the round joined
-  pub front-removal : (a b : ℕ) → a ≤ size1 st → b ≤ size2 st → T (holds (roundFront st r) a b) ↔ RoundHolds st r a b
+  pub front-removal : (a b : ℕ) → a ≤ studySize1 st → b ≤ studySize2 st → T (holds (roundFront st r) a b) ↔ RoundHolds st r a b
   front-removal a b h k = (
     λ t.
         let n = roundNetwork st r in
-        let j = pairs-hold n a b .0 (subst T (front-holds (size1 st) (size2 st) (pathPairs n) inside a b) t) in
+        let j = pairs-hold n a b .0 (subst T (front-holds (studySize1 st) (studySize2 st) (routePairs n) inside a b) t) in
         (j .0, j .1, λ v m. at v .0 (walk-holds n (st .source) (j .0) a b .0 (j .2) .0 v m)),
     λ j.
         let n = roundNetwork st r in
-        subst T (sym (front-holds (size1 st) (size2 st) (pathPairs n) inside a b))
+        subst T (sym (front-holds (studySize1 st) (studySize2 st) (routePairs n) inside a b))
         (pairs-hold n a b .1 (
           j .0,
           j .1,
-          walk-holds n (st .source) (j .0) a b .1 (λ v m. at v .1 (j .2 v m), λ l m. holds-is (pairOf (size1 st + 1) (size2 st + 1)) a b .1 (omega arith, omega arith)),
+          walk-holds n (st .source) (j .0) a b .1 (λ v m. at v .1 (j .2 v m), λ l m. holds-is (pairOf (studySize1 st + 1) (studySize2 st + 1)) a b .1 (omega arith, omega arith)),
         )),
   )
     where
       at : (v : ℕ)
           → T (holdsAt (roundNetwork st r .node v) a b)
           ↔ T (works (getD (st .classes) v 0) (order1 (st .classes) (roundAt st r)) (order2 (st .classes) (roundAt st r)) a b v)
-      at v = capacity-holds (size1 st) (size2 st) (getD (st .classes) v 0) (order1 (st .classes) (roundAt st r)) (order2 (st .classes) (roundAt st r)) v a b h k
+      at v = capacity-holds (studySize1 st) (studySize2 st) (getD (st .classes) v 0) (order1 (st .classes) (roundAt st r)) (order2 (st .classes) (roundAt st r)) v a b h k

@@ -6,8 +6,8 @@ use Rattle.laws.specs.Members.{_∈_, map-same}
 use Rattle.front.specs.declared.Pair.{Pair}
 use Rattle.front.specs.Pair.{minPair}
 use Rattle.parts.specs.Study.{Arc}
-use Rattle.network.specs.Walk.{Network, Walk, pairOn, paths, pathPairs}
-use Rattle.network.proofs.Paths.{paths-are}
+use Rattle.network.specs.Walk.{Network, Walk, pairOn, routes, routePairs}
+use Rattle.network.proofs.Routes.{routes-are}
 
 module _ (arcs : List Arc) (s t : ℕ) (c : ℕ → Pair) where
   abbrev with-node : (ℕ → Pair) → Network
@@ -18,5 +18,5 @@ module _ (arcs : List Arc) (s t : ℕ) (c : ℕ → Pair) where
     walk-same u v [] b w = same u b
     walk-same u v (k ∷ ks) b w = ap₂ (λ p q. minPair p (minPair (c (k .place)) q)) (same u b) (walk-same (k .to) v ks (into k (w .0)) (w .2))
 
-    pub pairs-same : s < size → pathPairs (with-node g) ≡ pathPairs (with-node h)
-    pairs-same b = map-same (pairOn (with-node g) s) (pairOn (with-node h) s) (paths (with-node g)) (λ ks m. walk-same s t ks b (paths-are (with-node g) ks .0 m .0))
+    pub pairs-same : s < size → routePairs (with-node g) ≡ routePairs (with-node h)
+    pairs-same b = map-same (pairOn (with-node g) s) (pairOn (with-node h) s) (routes (with-node g)) (λ ks m. walk-same s t ks b (routes-are (with-node g) ks .0 m .0))

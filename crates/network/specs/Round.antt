@@ -1,4 +1,4 @@
--- A round of a study (document 01, "Positions, routes and the search"): where it holds, told by direct removal, and its front, told by its paths.
+-- A round of a study (document 01, "Positions, routes and the search"): where it holds, told by direct removal, and its front, told by its routes.
 use mathlib.Core.Bool.{Bool, true}
 use mathlib.Core.List.{List, []}
 use Prim.Native.Nat.{ℕ, zero, suc, _+_}
@@ -10,17 +10,21 @@ use Rattle.front.specs.Pair.{pairOf}
 use Rattle.front.specs.Front.{front}
 use Rattle.orders.specs.Order.{count, order1, order2, position}
 use Rattle.parts.specs.Study.{Arc, Study}
-use Rattle.network.specs.Walk.{Network, Walk, visits, pathPairs}
+use Rattle.network.specs.Walk.{Network, Walk, visits, RouteFrom, pairOn, routePairs}
 
 -- n1 and n2
-abbrev pub size1 : Study → ℕ
-size1 st = count 1 (st .classes)
+abbrev pub studySize1 : Study → ℕ
+studySize1 st = count 1 (st .classes)
 
-abbrev pub size2 : Study → ℕ
-size2 st = count 2 (st .classes)
+abbrev pub studySize2 : Study → ℕ
+studySize2 st = count 2 (st .classes)
 
 abbrev pub roundAt : Study → ℕ → List ℕ
 roundAt st r = getD (st .rounds) r []
+
+-- A ROUTE: a chain of arcs from source to target that visits no node twice
+abbrev pub Route : Study → List Arc → Type 0
+Route st ks = RouteFrom (st .arcs) (st .source) (st .target) ks
 
 -- ---- DIRECT REMOVAL
 -- after a failures of class 1 and b of class 2, a node of class 1 works when its position is above a, of class 2 when above b, of class 0 always
@@ -60,6 +64,10 @@ networkIn classes arcs round s t =
 abbrev pub roundNetwork : Study → ℕ → Network
 roundNetwork st r = networkIn (st .classes) (st .arcs) (roundAt st r) (st .source) (st .target)
 
--- THE FRONT of a round: the undominated pairs of all its paths
+-- the pair of a route in a round
+abbrev pub routePair : Study → ℕ → List Arc → Pair
+routePair st r ks = pairOn (roundNetwork st r) (st .source) ks
+
+-- THE FRONT of a round: the undominated pairs of all its routes
 abbrev pub roundFront : Study → ℕ → List Pair
-roundFront st r = front (size1 st) (size2 st) (pathPairs (roundNetwork st r))
+roundFront st r = front (studySize1 st) (studySize2 st) (routePairs (roundNetwork st r))

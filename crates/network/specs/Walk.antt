@@ -1,11 +1,11 @@
--- Walks and paths (document 01, "Positions, routes and the search"): chains of arcs, the pair of a path, and all paths by enumeration.
+-- Walks and routes (document 01, "Positions, routes and the search"): chains of arcs, the pair of a route, and all routes by enumeration.
 use mathlib.Core.Path.{_≡_}
 use mathlib.Core.Bool.{_&&_, cond}
 use mathlib.Core.List.{List, [], _∷_, _++_, map}
 use Prim.Native.Nat.{ℕ, zero, suc}
 use lib.Dec.{eqb}
 use lib.ListN.{length}
-use Rattle.laws.specs.Members.{_∈_, keep, each, member, without}
+use Rattle.laws.specs.Members.{_∈_, keep, concatMap, member, without}
 use Rattle.laws.specs.Pairwise.{Pairwise}
 use Rattle.front.specs.declared.Pair.{Pair}
 use Rattle.front.specs.Pair.{minPair}
@@ -34,16 +34,16 @@ visits u ks = u ∷ ends ks
 abbrev pub Differ : ℕ → ℕ → Type 0
 Differ x y = x ≡ y → ⊥
 
--- A PATH (01: route): a walk that visits no node twice
-abbrev pub Path : List Arc → ℕ → ℕ → List Arc → Type 0
-Path arcs u v ks = Walk arcs u v ks × Pairwise Differ (visits u ks)
+-- a route from u to v: a walk that visits no node twice
+abbrev pub RouteFrom : List Arc → ℕ → ℕ → List Arc → Type 0
+RouteFrom arcs u v ks = Walk arcs u v ks × Pairwise Differ (visits u ks)
 
 -- the pair of a walk that starts at u: the least capacity on it, both ends included
 abbrev pub pairOn : Network → ℕ → List Arc → Pair
 pairOn net u [] = net .node u
 pairOn net u (k ∷ ks) = minPair (net .node u) (minPair (net .arc (k .place)) (pairOn net (k .to) ks))
 
--- ---- all paths: from u follow every arc to a node that is still free
+-- ---- all routes: from u follow every arc to a node that is still free
 abbrev pub onward : List Arc → List ℕ → ℕ → List Arc
 onward arcs free u = keep (λ k. eqb (k .from) u && member (k .to) free) arcs
 
@@ -51,14 +51,14 @@ onward arcs free u = keep (λ k. eqb (k .from) u && member (k .to) free) arcs
 abbrev pub arrived : ℕ → ℕ → List (List Arc)
 arrived t u = cond (eqb u t) ([] ∷ []) []
 
-abbrev pub pathsFrom : List Arc → ℕ → ℕ → List ℕ → ℕ → List (List Arc)
-pathsFrom arcs t zero free u = arrived t u
-pathsFrom arcs t (suc n) free u = arrived t u ++ each (λ k. map (λ ks. k ∷ ks) (pathsFrom arcs t n (without (k .to) free) (k .to))) (onward arcs free u)
+abbrev pub routesFrom : List Arc → ℕ → ℕ → List ℕ → ℕ → List (List Arc)
+routesFrom arcs t zero free u = arrived t u
+routesFrom arcs t (suc n) free u = arrived t u ++ concatMap (λ k. map (λ ks. k ∷ ks) (routesFrom arcs t n (without (k .to) free) (k .to))) (onward arcs free u)
 
--- all paths from source to target
-abbrev pub paths : Network → List (List Arc)
-paths net = pathsFrom (net .arcs) (net .target) (length (net .arcs)) (without (net .source) (ends (net .arcs))) (net .source)
+-- all routes from source to target
+abbrev pub routes : Network → List (List Arc)
+routes net = routesFrom (net .arcs) (net .target) (length (net .arcs)) (without (net .source) (ends (net .arcs))) (net .source)
 
 -- and their pairs
-abbrev pub pathPairs : Network → List Pair
-pathPairs net = map (pairOn net (net .source)) (paths net)
+abbrev pub routePairs : Network → List Pair
+routePairs net = map (pairOn net (net .source)) (routes net)

@@ -1,1 +1,1 @@
-// Networks, walks and paths: definitions and theorems only (specs/, proofs/).
+// Networks, walks and routes: definitions and theorems only (specs/, proofs/).

@@ -1,4 +1,4 @@
-// Removal testing, all paths one by one, and how many rounds hold: no code is shared with the
+// Removal testing, all routes one by one, and how many rounds hold: no code is shared with the
 // library.
 use trial::byte;
 use trial::flag;
@@ -143,7 +143,7 @@ pub fn held(tables: &[u8], n1: usize, n2: usize, out: &mut [u8])
     }
 }
 
-// ---- all paths
+// ---- all routes
 // The place of v in an order, counted from 1; one past the last where it has none.
 fn place(v: u64, order: &[u8]) -> u64
     ensures { λ r. ⌜ r ≤ 300 ⌝ }
@@ -165,7 +165,7 @@ fn smaller(x: u64, y: u64) -> u64
     if x < y { x } else { y }
 }
 
-// Marks the pair of every path from v on to the target that visits no node of `seen`; p1 and p2
+// Marks the pair of every route from v on to the target that visits no node of `seen`; p1 and p2
 // are the least so far.
 fn walk(
     arcs: &[u8],

@@ -11,7 +11,7 @@ use Rattle.laws.specs.Members.{_∈_}
 use Rattle.laws.specs.Tests.{T-true, T-ext, T-and, T-or}
 use Rattle.front.specs.declared.Pair.{Pair}
 use Rattle.front.specs.Front.{AtMost}
-use Rattle.record.specs.Record.{size1, size2, listed, isRecord, recordHolds}
+use Rattle.record.specs.Record.{recordSize1, recordSize2, listed, isRecord, recordHolds}
 use Rattle.record.proofs.Bytes.{listed-length}
 use Rattle.record.proofs.Records.{record-is, record-few}
 use Rattle.compose.specs.Compose.{seriesBytes, parallelBytes, Joinable}
@@ -19,7 +19,7 @@ use Rattle.compose.specs.Laws.{Sized, Laws}
 use Rattle.compose.proofs.Algebra.{laws}
 use Rattle.parts.specs.Study.{Arc}
 use Rattle.sections.specs.File.{studyOf}
-use Rattle.search.specs.Claims.{StudyPath, pathPair}
+use Rattle.network.specs.Round.{Route, routePair}
 use Rattle.search.proofs.Claims.{claims}
 use Rattle.plan.specs.Plan.{Plan, searched, series, parallel, PlanHolds, PlanSized}
 use Rattle.plan.specs.Calls.{Searched, Built}
@@ -28,8 +28,8 @@ use Rattle.plan.proofs.Told.{search-wrote, search-passed, series-wrote,
 -- what is known of a plan's record
 pub record Sound (p : Plan) (x : List ℕ) : Type 0 where
   pub is : T (isRecord x)
-  pub sized : PlanSized p (size1 x) (size2 x)
-  pub holds : (a b : ℕ) → a ≤ size1 x → b ≤ size2 x → T (recordHolds x a b) ↔ PlanHolds p a b
+  pub sized : PlanSized p (recordSize1 x) (recordSize2 x)
+  pub holds : (a b : ℕ) → a ≤ recordSize1 x → b ≤ recordSize2 x → T (recordHolds x a b) ↔ PlanHolds p a b
 
 -- ---- a searched round
 round-sound : (f : List ℕ) (r : ℕ) (x : List ℕ) → Searched f r x → Sound (searched f r) x
@@ -39,27 +39,27 @@ round-sound f r x s =
 
 -- ---- two plans joined
 module _ {p q : Plan} {y z : List ℕ} (sp : Sound p y) (sq : Sound q z) (j : Joinable y z) where
-  same : (size1 y ≡ size1 z) × (size2 y ≡ size2 z)
+  same : (recordSize1 y ≡ recordSize1 z) × (recordSize2 y ≡ recordSize2 z)
   same =
-      let t = T-and (eqb (size1 y) (size1 z)) (eqb (size2 y) (size2 z)) .0 (j .same) in
-      (eqb-true (size1 y) (size1 z) (T-true (eqb (size1 y) (size1 z)) .0 (t .0)), eqb-true (size2 y) (size2 z) (T-true (eqb (size2 y) (size2 z)) .0 (t .1)))
+      let t = T-and (eqb (recordSize1 y) (recordSize1 z)) (eqb (recordSize2 y) (recordSize2 z)) .0 (j .same) in
+      (eqb-true (recordSize1 y) (recordSize1 z) (T-true (eqb (recordSize1 y) (recordSize1 z)) .0 (t .0)), eqb-true (recordSize2 y) (recordSize2 z) (T-true (eqb (recordSize2 y) (recordSize2 z)) .0 (t .1)))
 
-  left : Sized (size1 y) (size2 y) y
+  left : Sized (recordSize1 y) (recordSize2 y) y
   left = record { is = sp .is; one = refl; two = refl }
 
-  right : Sized (size1 y) (size2 y) z
+  right : Sized (recordSize1 y) (recordSize2 y) z
   right = record { is = sq .is; one = sym (same .0); two = sym (same .1) }
 
-  all : Laws (size1 y) (size2 y) y z z
+  all : Laws (recordSize1 y) (recordSize2 y) y z z
   all = laws left right right
 
-  sized-right : PlanSized q (size1 y) (size2 y)
-  sized-right = subst (λ m. PlanSized q m (size2 y)) (sym (same .0)) (subst (PlanSized q (size1 z)) (sym (same .1)) (sq .sized))
+  sized-right : PlanSized q (recordSize1 y) (recordSize2 y)
+  sized-right = subst (λ m. PlanSized q m (recordSize2 y)) (sym (same .0)) (subst (PlanSized q (recordSize1 z)) (sym (same .1)) (sq .sized))
 
-  left-holds : (a b : ℕ) → a ≤ size1 y → b ≤ size2 y → T (recordHolds y a b) ↔ PlanHolds p a b
+  left-holds : (a b : ℕ) → a ≤ recordSize1 y → b ≤ recordSize2 y → T (recordHolds y a b) ↔ PlanHolds p a b
   left-holds = sp .holds
 
-  right-holds : (a b : ℕ) → a ≤ size1 y → b ≤ size2 y → T (recordHolds z a b) ↔ PlanHolds q a b
+  right-holds : (a b : ℕ) → a ≤ recordSize1 y → b ≤ recordSize2 y → T (recordHolds z a b) ↔ PlanHolds q a b
   right-holds a b h k = sq .holds a b (omega (arith, same .0)) (omega (arith, same .1))
 
   series-sound : Sound (series p q) (seriesBytes y z)
@@ -105,7 +105,7 @@ one-size (parallel p q) m n i j s t = one-size p m n i j (s .0) (t .0)
 -- ---- DEMAND 3
 module _ (p : Plan) (x : List ℕ) (n1 n2 : ℕ) (b : Built p x) (s : PlanSized p n1 n2) where
   pub sized : Sized n1 n2 x
-  sized = let e = one-size p (size1 x) (size2 x) n1 n2 (sound p x b .sized) s in record { is = sound p x b .is; one = e .0; two = e .1 }
+  sized = let e = one-size p (recordSize1 x) (recordSize2 x) n1 n2 (sound p x b .sized) s in record { is = sound p x b .is; one = e .0; two = e .1 }
 
   pub holds : (i j : ℕ) → i ≤ n1 → j ≤ n2 → T (recordHolds x i j) ↔ PlanHolds p i j
   holds i j h k = sound p x b .holds i j (omega (arith, sized .one)) (omega (arith, sized .two))
@@ -125,5 +125,5 @@ equal p q x y n1 n2 b c s t =
     )
 
 pub route : (f : List ℕ) (r : ℕ) (x : List ℕ) → Built (searched f r) x
-    → (ks : List Arc) → StudyPath (studyOf f) ks → (q : Pair) × (q ∈ listed x) × AtMost (pathPair (studyOf f) r ks) q
+    → (ks : List Arc) → Route (studyOf f) ks → (q : Pair) × (q ∈ listed x) × AtMost (routePair (studyOf f) r ks) q
 route f r x s = rw (search-wrote f r x s) (claims f r (search-passed f r x s) .route)

@@ -6,7 +6,7 @@ use native.Mathlib.Omega.{arith}
 use lib.ListN.{length, getD, take}
 use Rattle.front.specs.declared.Pair.{Pair}
 use Rattle.front.specs.Pair.{pairOf}
-use Rattle.record.specs.Record.{size1, size2, count, paired, flat, listed, recordBytes, pairAt}
+use Rattle.record.specs.Record.{recordSize1, recordSize2, pairCount, paired, flat, listed, recordBytes, pairAt}
 
 pub paired-flat : (l : List Pair) → paired (flat l) ≡ l
 paired-flat [] = refl
@@ -49,7 +49,7 @@ paired-length b k e = omega (arith, flat-length (paired b), ap length (flat-pair
 
 -- ---- a slice that is as long as its count says
 -- its pair at a place is the one that it lists, and (0, 0) past the last
-pub pair-at : (b : List ℕ) (i : ℕ) → length b ≡ 3 + 2 * count b → pairAt b i ≡ getD (listed b) i (pairOf 0 0)
+pub pair-at : (b : List ℕ) (i : ℕ) → length b ≡ 3 + 2 * pairCount b → pairAt b i ≡ getD (listed b) i (pairOf 0 0)
 pair-at [] i e = absurd (omega arith)
 pair-at (x ∷ []) i e = absurd (omega arith)
 pair-at (x ∷ y ∷ []) i e = absurd (omega arith)
@@ -59,14 +59,14 @@ pair-at (x ∷ y ∷ k ∷ b) i e =
     rw (f, g) (paired-at b k i (omega arith))
 
 -- it lists as many pairs as its count says
-pub listed-length : (b : List ℕ) → length b ≡ 3 + 2 * count b → length (listed b) ≡ count b
+pub listed-length : (b : List ℕ) → length b ≡ 3 + 2 * pairCount b → length (listed b) ≡ pairCount b
 listed-length [] e = absurd (omega arith)
 listed-length (x ∷ []) e = absurd (omega arith)
 listed-length (x ∷ y ∷ []) e = absurd (omega arith)
 listed-length (x ∷ y ∷ k ∷ b) e = paired-length b k (omega arith)
 
 -- it is its sizes, its count and its pairs
-pub record-whole : (b : List ℕ) → length b ≡ 3 + 2 * count b → b ≡ recordBytes (size1 b) (size2 b) (listed b)
+pub record-whole : (b : List ℕ) → length b ≡ 3 + 2 * pairCount b → b ≡ recordBytes (recordSize1 b) (recordSize2 b) (listed b)
 record-whole [] e = absurd (omega arith)
 record-whole (x ∷ []) e = absurd (omega arith)
 record-whole (x ∷ y ∷ []) e = absurd (omega arith)

@@ -16,7 +16,7 @@ use Rattle.front.specs.declared.Pair.{Pair}
 use Rattle.front.specs.Front.{front, Within, Falls, RecordForm}
 use Rattle.front.proofs.Pairs.{numbers}
 use Rattle.front.proofs.Fronts.{front-form, form-front, form-short}
-use Rattle.record.specs.Record.{size1, size2, count, listed, recordBytes, inRange, follows, fallsFrom, falling, isRecord, ListsFront}
+use Rattle.record.specs.Record.{recordSize1, recordSize2, pairCount, listed, recordBytes, inRange, follows, fallsFrom, falling, isRecord, ListsFront}
 use Rattle.record.proofs.Bytes.{paired-flat, flat-length, listed-length, record-whole}
 
 pub range-is : (n1 n2 : ℕ) (p : Pair) → T (inRange n1 n2 p) ↔ Within n1 n2 p
@@ -59,16 +59,16 @@ falling-is (p ∷ l) = from-is p l
 
 -- what the test says
 pub record IsRecord (b : List ℕ) : Type 0 where
-  pub small1 : size1 b ≤ maxClass
-  pub small2 : size2 b ≤ maxClass
-  pub long : length b ≡ 3 + 2 * count b
-  pub form : RecordForm (size1 b) (size2 b) (listed b)
+  pub small1 : recordSize1 b ≤ maxClass
+  pub small2 : recordSize2 b ≤ maxClass
+  pub long : length b ≡ 3 + 2 * pairCount b
+  pub form : RecordForm (recordSize1 b) (recordSize2 b) (listed b)
 
 pub record-is : (b : List ℕ) → T (isRecord b) ↔ IsRecord b
 record-is b =
-    let n1 = size1 b in
-    let n2 = size2 b in
-    let k = count b in
+    let n1 = recordSize1 b in
+    let n2 = recordSize2 b in
+    let k = pairCount b in
     let l = listed b in
     let b1 = leb n1 maxClass && leb n2 maxClass in
     let b2 = eqb (length b) (3 + 2 * k) && leb k (min n1 n2 + 1) in
@@ -105,13 +105,13 @@ record-is b =
     )
 
 -- k is at most the smaller class size, plus one
-pub record-few : (b : List ℕ) → IsRecord b → count b ≤ min (size1 b) (size2 b) + 1
-record-few b r = omega (arith, form-short (size1 b) (size2 b) (listed b) (r .form), listed-length b (r .long))
+pub record-few : (b : List ℕ) → IsRecord b → pairCount b ≤ min (recordSize1 b) (recordSize2 b) + 1
+record-few b r = omega (arith, form-short (recordSize1 b) (recordSize2 b) (listed b) (r .form), listed-length b (r .long))
 
 -- once sizes, length and count are tested, the pairs decide
-pub pairs-decide : (b : List ℕ) → size1 b ≤ maxClass → size2 b ≤ maxClass → length b ≡ 3 + 2 * count b → count b ≤ min (size1 b) (size2 b) + 1
-    → (all (inRange (size1 b) (size2 b)) (listed b) && falling (listed b)) ≡ isRecord b
-pairs-decide b h k e f = rw (le-leb (size1 b) maxClass h, le-leb (size2 b) maxClass k, eq-eqb (length b) (3 + 2 * count b) e, le-leb (count b) (min (size1 b) (size2 b) + 1) f)
+pub pairs-decide : (b : List ℕ) → recordSize1 b ≤ maxClass → recordSize2 b ≤ maxClass → length b ≡ 3 + 2 * pairCount b → pairCount b ≤ min (recordSize1 b) (recordSize2 b) + 1
+    → (all (inRange (recordSize1 b) (recordSize2 b)) (listed b) && falling (listed b)) ≡ isRecord b
+pairs-decide b h k e f = rw (le-leb (recordSize1 b) maxClass h, le-leb (recordSize2 b) maxClass k, eq-eqb (length b) (3 + 2 * pairCount b) e, le-leb (pairCount b) (min (recordSize1 b) (recordSize2 b) + 1) f)
 
 pub not-record : (b : List ℕ) → (IsRecord b → ⊥) → false ≡ isRecord b
 not-record b n = T-ext false (isRecord b) (λ t. absurd t, λ t. n (record-is b .0 t))
@@ -127,13 +127,13 @@ record-front b = (
   λ t.
       let r = record-is b .0 t in
       record {
-        n1 = size1 b;
-        n2 = size2 b;
+        n1 = recordSize1 b;
+        n2 = recordSize2 b;
         pairs = listed b;
         small1 = r .small1;
         small2 = r .small2;
         within = r .form .within;
-        bytes = record-whole b (r .long) ∙ ap (recordBytes (size1 b) (size2 b)) (sym (form-front (size1 b) (size2 b) (listed b) (r .form)));
+        bytes = record-whole b (r .long) ∙ ap (recordBytes (recordSize1 b) (recordSize2 b)) (sym (form-front (recordSize1 b) (recordSize2 b) (listed b) (r .form)));
       },
   λ f. record-is b .1 (subst IsRecord (sym (f .bytes)) (form-is-record (f .n1) (f .n2) (front (f .n1) (f .n2) (f .pairs)) (f .small1) (f .small2) (front-form (f .n1) (f .n2) (f .pairs)))),
 )

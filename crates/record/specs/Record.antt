@@ -12,15 +12,15 @@ use Rattle.front.specs.Pair.{pairOf}
 use Rattle.front.specs.Front.{holds, front, AllWithin}
 
 -- ---- the parts of a record
-abbrev pub size1 : List ℕ → ℕ
-size1 b = getD b 0 0
+abbrev pub recordSize1 : List ℕ → ℕ
+recordSize1 b = getD b 0 0
 
-abbrev pub size2 : List ℕ → ℕ
-size2 b = getD b 1 0
+abbrev pub recordSize2 : List ℕ → ℕ
+recordSize2 b = getD b 1 0
 
 -- k
-abbrev pub count : List ℕ → ℕ
-count b = getD b 2 0
+abbrev pub pairCount : List ℕ → ℕ
+pairCount b = getD b 2 0
 
 -- bytes taken two by two, and back
 abbrev pub paired : List ℕ → List Pair
@@ -70,9 +70,9 @@ falling (p ∷ l) = fallsFrom p l
 
 abbrev pub isRecord : List ℕ → Bool
 isRecord b =
-    (leb (size1 b) maxClass && leb (size2 b) maxClass)
-    && (eqb (length b) (3 + 2 * count b) && leb (count b) (min (size1 b) (size2 b) + 1))
-    && (all (inRange (size1 b) (size2 b)) (listed b) && falling (listed b))
+    (leb (recordSize1 b) maxClass && leb (recordSize2 b) maxClass)
+    && (eqb (length b) (3 + 2 * pairCount b) && leb (pairCount b) (min (recordSize1 b) (recordSize2 b) + 1))
+    && (all (inRange (recordSize1 b) (recordSize2 b)) (listed b) && falling (listed b))
 
 -- what the test says: the bytes list the front of some pairs, in record form, for class sizes at most 64
 pub record ListsFront (b : List ℕ) : Type 0 where

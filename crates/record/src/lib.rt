@@ -6,7 +6,7 @@ use slices::byte;
 use slices::wide;
 pub use valid::is_record;
 ghost use mathlib.Core.Path.{_≡_};
-ghost use Rattle.record.specs.Record.{size1, size2, count, pairAt, recordHolds};
+ghost use Rattle.record.specs.Record.{recordSize1, recordSize2, pairCount, pairAt, recordHolds};
 
 // The three bytes in front of the pairs.
 pub struct Head {
@@ -17,7 +17,7 @@ pub struct Head {
 
 // The head of a record; 0 for what the bytes do not have.
 pub fn read_head(bytes: &[u8]) -> Head
-    ensures { λ r. ⌜ (r .n1 ≡ size1 (now (bytes .entry))) × (r .n2 ≡ size2 (now (bytes .entry))) × (r .k ≡ count (now (bytes .entry))) ⌝ }
+    ensures { λ r. ⌜ (r .n1 ≡ recordSize1 (now (bytes .entry))) × (r .n2 ≡ recordSize2 (now (bytes .entry))) × (r .k ≡ pairCount (now (bytes .entry))) ⌝ }
 {
     Head {
         n1: byte(bytes, 0),

@@ -10,7 +10,7 @@ ghost use Prim.Native.Nat.{_+_, _*_, _≤_};
 ghost use lib.ListN.{length};
 ghost use Rattle.limits.specs.Limits.{maxClass};
 ghost use Rattle.laws.specs.Members.{all};
-ghost use Rattle.record.specs.Record.{count, listed, inRange, follows, falling, isRecord};
+ghost use Rattle.record.specs.Record.{pairCount, listed, inRange, follows, falling, isRecord};
 
 // The largest class size that a record may name.
 const MOST: u8 = MAX_CLASS as u8;
@@ -43,7 +43,7 @@ pub fn is_record(bytes: &[u8]) -> bool
 
 // Whether every pair is in range, p1 strictly falls and p2 strictly rises.
 fn pairs_fit(bytes: &[u8], n1: u8, n2: u8) -> bool
-    requires { ⌜ (n1 ≤ maxClass) × (n2 ≤ maxClass) × (length (now bytes) ≡ 3 + 2 * count (now bytes)) ⌝ }
+    requires { ⌜ (n1 ≤ maxClass) × (n2 ≤ maxClass) × (length (now bytes) ≡ 3 + 2 * pairCount (now bytes)) ⌝ }
     ensures { λ r. ⌜ r ≡ (all (inRange n1 n2) (listed (now (bytes .entry))) && falling (listed (now (bytes .entry)))) ⌝ }
 {
     let k = read_head(bytes).k;

@@ -8,7 +8,7 @@ use lib.ListN.{length, getD, set, length-set}
 use lib.Seq.{getD-set-same, getD-set-other}
 use Rattle.limits.specs.Limits.{maxArcs, arcSize, arcCount}
 use Rattle.laws.specs.Tests.{order, equal}
-use Rattle.relax.specs.State.{Chains, to}
+use Rattle.relax.specs.State.{Chains, toAt}
 
 pub unlinked : (arcs first more : List ℕ) → ((v : ℕ) → getD first v 0 ≡ 0) → Chains arcs first more 0
 unlinked arcs first more z =
@@ -19,7 +19,7 @@ unlinked arcs first more z =
       back = λ p q h. absurd (omega arith);
     }
 
-module _ {arcs first more : List ℕ} {n : ℕ} (c : Chains arcs first more n) (v : ℕ) (is : v ≡ to arcs n) (room : n < length more) (node : v < length first) where
+module _ {arcs first more : List ℕ} {n : ℕ} (c : Chains arcs first more n) (v : ℕ) (is : v ≡ toAt arcs n) (room : n < length more) (node : v < length first) where
   linked : Chains arcs (set first v (n + 1)) (set more n (getD first v 0)) (n + 1)
   linked =
       let now-f : getD (set first v (n + 1)) v 0 ≡ n + 1 = getD-set-same first v (n + 1) 0 node in
@@ -29,15 +29,15 @@ module _ {arcs first more : List ℕ} {n : ℕ} (c : Chains arcs first more n) (
       record {
         head = λ j h.
             ⊎-elim (λ e. omega (arith, ap (λ x. getD (set first v (n + 1)) x 0) e))
-            (λ ne. ⊎-elim (λ le. let i : j ≡ n = omega arith in absurd (ne (ap (to arcs) i ∙ sym is))) (λ lt. omega (arith, other-f (to arcs j) ne, c .head j lt)) (order n j)) (equal (to arcs j) v);
+            (λ ne. ⊎-elim (λ le. let i : j ≡ n = omega arith in absurd (ne (ap (toAt arcs) i ∙ sym is))) (λ lt. omega (arith, other-f (toAt arcs j) ne, c .head j lt)) (order n j)) (equal (toAt arcs j) v);
         head-is = λ x p e.
-            ⊎-elim (λ i. let q : p ≡ n = omega (arith, ap (λ x. getD (set first v (n + 1)) x 0) i) in (omega arith, ap (to arcs) q ∙ sym is ∙ sym i))
+            ⊎-elim (λ i. let q : p ≡ n = omega (arith, ap (λ x. getD (set first v (n + 1)) x 0) i) in (omega arith, ap (toAt arcs) q ∙ sym is ∙ sym i))
             (λ ne. let r = c .head-is x p (sym (other-f x ne) ∙ e) in (omega arith, r .1)) (equal x v);
         gap = λ j p h k e.
-            ⊎-elim (λ i. let q : to arcs j ≡ v = e ∙ ap (to arcs) i ∙ sym is in omega (arith, ap (λ x. getD (set more n (getD first v 0)) x 0) i, c .head j (omega arith), ap (λ x. getD first x 0) q))
+            ⊎-elim (λ i. let q : toAt arcs j ≡ v = e ∙ ap (toAt arcs) i ∙ sym is in omega (arith, ap (λ x. getD (set more n (getD first v 0)) x 0) i, c .head j (omega arith), ap (λ x. getD first x 0) q))
             (λ ne. omega (arith, other-m p ne, c .gap j p h (omega arith) e)) (equal p n);
         back = λ p q h e.
-            ⊎-elim (λ i. let r = c .head-is v q (sym now-m ∙ ap (λ x. getD (set more n (getD first v 0)) x 0) (sym i) ∙ e) in (omega arith, r .1 ∙ is ∙ ap (to arcs) (sym i)))
+            ⊎-elim (λ i. let r = c .head-is v q (sym now-m ∙ ap (λ x. getD (set more n (getD first v 0)) x 0) (sym i) ∙ e) in (omega arith, r .1 ∙ is ∙ ap (toAt arcs) (sym i)))
             (λ ne. c .back p q (omega arith) (sym (other-m p ne) ∙ e)) (equal p n);
       }
 
@@ -60,7 +60,7 @@ pub record Linking (arcs first₀ more₀ first more : List ℕ) (n i : ℕ) : T
   -- the first i places are linked
   pub chains : Chains arcs first more i
 
-module _ {arcs first₀ more₀ first more : List ℕ} {n i : ℕ} (k : Linking arcs first₀ more₀ first more n i) (h : i < n) (v : ℕ) (is : v ≡ to arcs i) where
+module _ {arcs first₀ more₀ first more : List ℕ} {n i : ℕ} (k : Linking arcs first₀ more₀ first more n i) (h : i < n) (v : ℕ) (is : v ≡ toAt arcs i) where
   pub node : v < length first
   node = rw is (k .ends (arcSize * i + 1) (omega (arith, k .count)))
 

@@ -9,8 +9,8 @@ use lib.Seq.{getD-set-same, getD-set-other}
 use Rattle.limits.specs.Limits.{maxNodes, maxArcs, arcSize, arcCount, maxPosition}
 use Rattle.laws.specs.Tests.{order, equal}
 use Rattle.laws.specs.Members.{_∈_}
-use Rattle.relax.specs.Labels.{Held, held-raise}
-use Rattle.relax.specs.State.{Graph, Chains, from, to, net, low, Quiet, Ripe, Why, quiet, piled, waits, left, Marked, Work, Kept}
+use Rattle.relax.specs.Labels.{Walked, held-raise}
+use Rattle.relax.specs.State.{Graph, Chains, fromAt, toAt, graphNetwork, low, Quiet, Ripe, Why, quiet, piled, waits, left, Marked, Work, Kept}
 use Rattle.relax.proofs.Arcs.{arcs-in}
 
 -- ---- the count of low labels
@@ -36,13 +36,13 @@ low-less l (suc u) (x ∷ d) h k = omega (arith, low-less l u d (omega arith) k)
 -- ---- an arc that raises nothing is passed
 module _ {f : Graph} {first more : List ℕ} (ch : Chains (f .arcs) first more (arcCount (f .arcs)))
     {a l : ℕ} {d stack wait : List ℕ} {top v i : ℕ} (w : Work f a l d stack wait top v i) (p : ℕ) (is : i ≡ suc p) where
-  arrives : to (f .arcs) p ≡ v
-  arrives = let e : p ≡ i - 1 = omega arith in ap (to (f .arcs)) e ∙ w .going (omega arith) .2
+  arrives : toAt (f .arcs) p ≡ v
+  arrives = let e : p ≡ i - 1 = omega arith in ap (toAt (f .arcs)) e ∙ w .going (omega arith) .2
 
   pub down : getD more p 0 < i
   down = ⊎-elim (λ le. omega arith) (λ lt. omega (arith, ch .back p (getD more p 0 - 1) (omega (arith, w .going (omega arith) .1)) (omega arith))) (order (getD more p 0) 0)
 
-  pub pass : min l (getD (f .cap) (from (f .arcs) p) 0) ≤ getD d (from (f .arcs) p) 0 → Work f a l d stack wait top v (getD more p 0)
+  pub pass : min l (getD (f .cap) (fromAt (f .arcs) p) 0) ≤ getD d (fromAt (f .arcs) p) 0 → Work f a l d stack wait top v (getD more p 0)
   pass q =
       record {
         laid = w .laid;
@@ -74,7 +74,7 @@ module _ {f : Graph} {first more : List ℕ} (ch : Chains (f .arcs) first more (
 
 -- ---- the start u of the arc at p is raised to c
 module _ {f : Graph} {a l : ℕ} {d stack wait : List ℕ} {top v i : ℕ} (w : Work f a l d stack wait top v i) (p : ℕ) (is : i ≡ suc p)
-    (u : ℕ) (is-u : u ≡ from (f .arcs) p) (c : ℕ) (is-c : c ≡ min l (getD (f .cap) u 0)) (rise : getD d u 0 < c) where
+    (u : ℕ) (is-u : u ≡ fromAt (f .arcs) p) (c : ℕ) (is-c : c ≡ min l (getD (f .cap) u 0)) (rise : getD d u 0 < c) where
   in-arcs : arcSize * p + 1 < length (f .arcs)
   in-arcs = omega (arith, w .going (omega arith) .1)
 
@@ -108,12 +108,12 @@ module _ {f : Graph} {a l : ℕ} {d stack wait : List ℕ} {top v i : ℕ} (w : 
         full = m .full;
       }
 
-  held : Held (net f) a (λ v. getD (set d u c) v 0)
+  held : Walked (graphNetwork f) a (λ v. getD (set d u c) v 0)
   held =
       let g = w .going (omega arith) in
-      let e : to (f .arcs) p ≡ v = let e : p ≡ i - 1 = omega arith in ap (to (f .arcs)) e ∙ g .2 in
-      let arc : record { from = u; to = v; place = 0 + p } ∈ net f .arcs = rw (is-u, ← e) (arcs-in (f .arcs) 0 p in-arcs) in
-      held-raise (net f) a (λ v. getD d v 0) (λ v. getD (set d u c) v 0) (w .held) (record { from = u; to = v; place = 0 + p }) arc other (g .0 .in-it)
+      let e : toAt (f .arcs) p ≡ v = let e : p ≡ i - 1 = omega arith in ap (toAt (f .arcs)) e ∙ g .2 in
+      let arc : record { from = u; to = v; place = 0 + p } ∈ graphNetwork f .arcs = rw (is-u, ← e) (arcs-in (f .arcs) 0 p in-arcs) in
+      held-raise (graphNetwork f) a (λ v. getD d v 0) (λ v. getD (set d u c) v 0) (w .held) (record { from = u; to = v; place = 0 + p }) arc other (g .0 .in-it)
       (omega (arith, w .early, w .laid .small1)) (omega (arith, g .0 .at, w .some)) (omega (arith, at-u, is-c, g .0 .at, w .high, w .laid .small2))
 
   module _ (stack′ wait′ : List ℕ) (top′ : ℕ)
@@ -124,7 +124,7 @@ module _ {f : Graph} {a l : ℕ} {d stack wait : List ℕ} {top v i : ℕ} (w : 
       (fresh : (k : ℕ) → top ≤ k → k < top′ → Ripe f a l (set d u c) (getD stack′ k 0))
       (flags : (x : ℕ) → (getD wait x 0 ≡ 0 → ⊥) → getD wait′ x 0 ≡ 0 → ⊥)
       (mark′ : Marked f (set d u c) wait′)
-      (new : (j : ℕ) → a < getD (f .entry) (to (f .arcs) j) 0 → to (f .arcs) j ≡ u → Why f l (set d u c) stack′ wait′ top′ v i j) where
+      (new : (j : ℕ) → a < getD (f .entry) (toAt (f .arcs) j) 0 → toAt (f .arcs) j ≡ u → Why f l (set d u c) stack′ wait′ top′ v i j) where
     raised : Work f a l (set d u c) stack′ wait′ top′ v i
     raised =
         record {
@@ -141,15 +141,15 @@ module _ {f : Graph} {a l : ℕ} {d stack wait : List ℕ} {top v i : ℕ} (w : 
           pile = λ k h. ⊎-elim (λ le. fresh k le h) (λ lt. rw (same k lt) (ripe (getD stack k 0) (w .pile k lt))) (order top k);
           going = λ h. let g = w .going h in (ripe v (g .0), g .1, g .2);
           marked = mark′;
-          why = λ j h e. ⊎-elim (new j e) (λ n. go j n (w .why j h e)) (equal (to (f .arcs) j) u);
+          why = λ j h e. ⊎-elim (new j e) (λ n. go j n (w .why j h e)) (equal (toAt (f .arcs) j) u);
         }
       where
-        go : (j : ℕ) → (to (f .arcs) j ≡ u → ⊥) → Why f l d stack wait top v i j → Why f l (set d u c) stack′ wait′ top′ v i j
-        go j n (quiet x) = quiet (omega (arith, x, other (to (f .arcs) j) n, grow (from (f .arcs) j), grow (f .source)))
+        go : (j : ℕ) → (toAt (f .arcs) j ≡ u → ⊥) → Why f l d stack wait top v i j → Why f l (set d u c) stack′ wait′ top′ v i j
+        go j n (quiet x) = quiet (omega (arith, x, other (toAt (f .arcs) j) n, grow (fromAt (f .arcs) j), grow (f .source)))
         go j n (piled k h e) = piled k (omega arith) (same k h ∙ e)
         go j n (waits x) =
-            let q = other (to (f .arcs) j) n in
-            waits (record { below = omega (arith, x .below, q); full = x .full ∙ sym q; flag = λ z. flags (getD d (to (f .arcs) j) 0) (x .flag) (ap (λ k. getD wait′ k 0) (sym q) ∙ z) })
+            let q = other (toAt (f .arcs) j) n in
+            waits (record { below = omega (arith, x .below, q); full = x .full ∙ sym q; flag = λ z. flags (getD d (toAt (f .arcs) j) 0) (x .flag) (ap (λ k. getD wait′ k 0) (sym q) ∙ z) })
         go j n (left e h) = left e h
 
   -- not in yet: the label is kept
@@ -172,7 +172,7 @@ module _ {f : Graph} {a l : ℕ} {d stack wait : List ℕ} {top v i : ℕ} (w : 
       let is-y : y ≡ u = omega (arith, n, now, ap (λ k. getD wait′ k 0) e) in
       record { some = omega arith; below = omega (arith, w .high); node = rw is-y node; label = ap (λ k. getD (set d u c) k 0) is-y ∙ at-u ∙ sym e; full = ap (λ k. getD (f .cap) k 0) is-y ∙ omega arith })
       (λ ne. mark x y (sym (old x ne) ∙ n)) (equal x c))
-      (λ j e q. let r : getD (set d u c) (to (f .arcs) j) 0 ≡ c = ap (λ k. getD (set d u c) k 0) q ∙ at-u in
+      (λ j e q. let r : getD (set d u c) (toAt (f .arcs) j) 0 ≡ c = ap (λ k. getD (set d u c) k 0) q ∙ at-u in
       waits (record { below = omega arith; full = ap (λ k. getD (f .cap) k 0) q ∙ omega arith ∙ sym r; flag = λ z. omega (arith, now, ap (λ k. getD wait′ k 0) r) }))
 
   -- in, at this level: pushed
@@ -204,7 +204,7 @@ module _ {f : Graph} {first more : List ℕ} {a l : ℕ} {d₀ stack₀ wait₀ 
   pub place : (p < length more) × (arcSize * p + 1 < length (f .arcs)) × (p < maxArcs)
   place = omega (arith, s .work .going (omega arith) .1, s .many, s .work .laid .many)
 
-  pub at-node : (u : ℕ) → u ≡ from (f .arcs) p → (u < length (f .entry)) × (u < length (f .cap)) × (u < length d) × (u < maxNodes)
+  pub at-node : (u : ℕ) → u ≡ fromAt (f .arcs) p → (u < length (f .entry)) × (u < length (f .cap)) × (u < length d) × (u < maxNodes)
   at-node u is-u = let h : u < length (f .entry) = rw is-u (s .work .laid .ends (arcSize * p) (omega (arith, place))) in omega (arith, h, s .work .long, s .work .laid .same, s .work .laid .few)
 
 -- a turn: the arc at p, what follows it in its chain, its start u, and what the level gives u
@@ -216,7 +216,7 @@ pub record Turn (f : Graph) (first more : List ℕ) (a l : ℕ) (d₀ stack₀ w
   -- m is the next in the chain
   pub is-m : m ≡ getD more p 0
   -- u is where the arc comes from
-  pub is-u : u ≡ from (f .arcs) p
+  pub is-u : u ≡ fromAt (f .arcs) p
   -- c is what u would be raised to
   pub is-c : c ≡ min l (getD (f .cap) u 0)
 
@@ -245,12 +245,12 @@ module _ {f : Graph} {first more : List ℕ} {a l : ℕ} {d₀ stack₀ wait₀ 
     pub level-in : (c < length wait) × (c < maxPosition + 1)
     level-in = omega (arith, t .is-c, t .state .work .high, t .state .work .laid .small2, t .state .work .long-wait)
 
-    pub again-waits : (k : ℕ) → k ≡ c → c < l → Spreading f first more a l d₀ stack₀ wait₀ top₀ (set d u c) stack (set wait k (from (f .arcs) p + 1)) top v m
+    pub again-waits : (k : ℕ) → k ≡ c → c < l → Spreading f first more a l d₀ stack₀ wait₀ top₀ (set d u c) stack (set wait k (fromAt (f .arcs) p + 1)) top v m
     again-waits k e h =
         let q = t .state in
         record {
           work = rw (e, ← t .is-u) (on (deferred (q .work) p (t .is-p) u (t .is-u) c (t .is-c) rise h) (omega (arith, it)));
-          kept = record { long = length-set d u c ∙ q .kept .long; long-stack = q .kept .long-stack; long-wait = length-set wait k (from (f .arcs) p + 1) ∙ q .kept .long-wait; less = omega (arith, q .kept .less, grown) };
+          kept = record { long = length-set d u c ∙ q .kept .long; long-stack = q .kept .long-stack; long-wait = length-set wait k (fromAt (f .arcs) p + 1) ∙ q .kept .long-wait; less = omega (arith, q .kept .less, grown) };
           chains = q .chains;
           room = rw length-set (q .room);
           many = q .many;
@@ -270,14 +270,14 @@ module _ {f : Graph} {first more : List ℕ} {a l : ℕ} {d₀ stack₀ wait₀ 
     pub space : l ≤ c → (top < length stack) × (top < maxNodes)
     space h = omega (arith, room (t .state .work) p (t .is-p) u (t .is-u) c (t .is-c) rise h, t .state .room, t .state .work .short)
 
-    pub again-pushed : l ≤ c → a < getD (f .entry) u 0 → Spreading f first more a l d₀ stack₀ wait₀ top₀ (set d u c) (set stack top (from (f .arcs) p)) wait (top + 1) v m
+    pub again-pushed : l ≤ c → a < getD (f .entry) u 0 → Spreading f first more a l d₀ stack₀ wait₀ top₀ (set d u c) (set stack top (fromAt (f .arcs) p)) wait (top + 1) v m
     again-pushed h e =
         let q = t .state in
         record {
           work = rw (← t .is-u) (on (pushed (q .work) p (t .is-p) u (t .is-u) c (t .is-c) rise h e (q .room)) (omega (arith, it)));
-          kept = record { long = length-set d u c ∙ q .kept .long; long-stack = length-set stack top (from (f .arcs) p) ∙ q .kept .long-stack; long-wait = q .kept .long-wait; less = omega (arith, q .kept .less, low-set l u c d (node-in .2) (omega arith) h) };
+          kept = record { long = length-set d u c ∙ q .kept .long; long-stack = length-set stack top (fromAt (f .arcs) p) ∙ q .kept .long-stack; long-wait = q .kept .long-wait; less = omega (arith, q .kept .less, low-set l u c d (node-in .2) (omega arith) h) };
           chains = q .chains;
-          room = omega (arith, q .room, length-set d u c, length-set stack top (from (f .arcs) p));
+          room = omega (arith, q .room, length-set d u c, length-set stack top (fromAt (f .arcs) p));
           many = q .many;
         }
 

@@ -10,7 +10,7 @@ use Rattle.laws.specs.Members.{_∈_}
 use Rattle.front.specs.Front.{holds}
 use Rattle.front.proofs.Pairs.{holds-is}
 use Rattle.parts.specs.Study.{Arc}
-use Rattle.network.specs.Walk.{Network, Walk, pairOn, pathPairs}
+use Rattle.network.specs.Walk.{Network, Walk, pairOn, routePairs}
 use Rattle.network.proofs.Rounds.{pairs-hold}
 
 -- a walk is worth at most its first node
@@ -24,8 +24,8 @@ module _ (net : Network) (a : ℕ) where
   Good v y = (ks : List Arc) × Walk (net .arcs) v (net .target) ks × (min (suc a) (net .node v .p1 .0) ≤ pairOn net v ks .p1 .0) × (y ≤ pairOn net v ks .p2 .0)
 
   -- each label above 0 has a walk
-  abbrev pub Held : (ℕ → ℕ) → Type 0
-  Held d = (v : ℕ) → 0 < d v → Good v (d v)
+  abbrev pub Walked : (ℕ → ℕ) → Type 0
+  Walked d = (v : ℕ) → 0 < d v → Good v (d v)
 
   -- what is needed of an end, while both ends are in
   abbrev pub In : Type 0
@@ -45,7 +45,7 @@ module _ (net : Network) (a : ℕ) where
   walk-in v [] w h = (h, subst (λ u. a < net .node u .p1 .0) w h)
   walk-in v (k ∷ ks) w h = (omega arith, walk-in (k .to) ks (w .2) (omega arith) .1)
 
-  module _ (d : ℕ → ℕ) (so : Held d) (c : Calm d) where
+  module _ (d : ℕ → ℕ) (so : Walked d) (c : Calm d) where
     calm-high : In → (v : ℕ) (ks : List Arc) → Walk (net .arcs) v (net .target) ks → a < pairOn net v ks .p1 .0 → pairOn net v ks .p2 .0 ≤ max (d v) (d (net .source))
     calm-high i v [] w h = omega (arith, subst (λ u. net .node u .p2 .0 ≤ d u) (sym w) (c .at-t i))
     calm-high i v (k ∷ ks) w h =
@@ -53,7 +53,7 @@ module _ (net : Network) (a : ℕ) where
         rw (← w .1) (c .by-arc i k (w .0) (walk-in (k .to) ks (w .2) (omega arith) .0)) in
         omega (arith, by, calm-high i (k .to) ks (w .2) (omega arith))
 
-    pub calm-hold : (b : ℕ) → T (holds (pathPairs net) a b) ↔ (b < d (net .source))
+    pub calm-hold : (b : ℕ) → T (holds (routePairs net) a b) ↔ (b < d (net .source))
     calm-hold b = (
       λ t.
           let j = pairs-hold net a b .0 t in
@@ -64,18 +64,18 @@ module _ (net : Network) (a : ℕ) where
           pairs-hold net a b .1 (j .0, j .1, holds-is (pairOn net (net .source) (j .0)) a b .1 (omega (arith, c .s-in (omega arith)), omega arith)),
     )
 
-  module _ (d e : ℕ → ℕ) (so : Held d) where
-    held-at : (u : ℕ) → ((v : ℕ) → (v ≡ u → ⊥) → e v ≡ d v) → Good u (e u) → Held e
+  module _ (d e : ℕ → ℕ) (so : Walked d) where
+    held-at : (u : ℕ) → ((v : ℕ) → (v ≡ u → ⊥) → e v ≡ d v) → Good u (e u) → Walked e
     held-at u other w v h =
         ⊎-elim (λ i. subst (λ x. Good x (e x)) (sym i) w) (λ n. let q = other v n in let r = so v (omega arith) in (r .0, r .1, r .2, omega arith)) (equal v u)
 
-    pub held-t : ((v : ℕ) → (v ≡ net .target → ⊥) → e v ≡ d v) → e (net .target) ≤ net .node (net .target) .p2 .0 → Held e
+    pub held-t : ((v : ℕ) → (v ≡ net .target → ⊥) → e v ≡ d v) → e (net .target) ≤ net .node (net .target) .p2 .0 → Walked e
     held-t other k = held-at (net .target) other ([], refl, omega arith, k)
 
     pub held-raise : (k : Arc) → k ∈ net .arcs → ((v : ℕ) → (v ≡ k .from → ⊥) → e v ≡ d v) → a < net .node (k .to) .p1 .0 → a < net .arc (k .place) .p1 .0
-        → 0 < d (k .to) → e (k .from) ≤ min (net .node (k .from) .p2 .0) (min (net .arc (k .place) .p2 .0) (d (k .to))) → Held e
+        → 0 < d (k .to) → e (k .from) ≤ min (net .node (k .from) .p2 .0) (min (net .arc (k .place) .p2 .0) (d (k .to))) → Walked e
     held-raise k m other h i p y = let r = so (k .to) p in held-at (k .from) other (k ∷ r .0, (m, refl, r .1), omega arith, omega arith)
 
 -- one failure fewer
-pub held-lower : (net : Network) (a : ℕ) (d : ℕ → ℕ) → Held net (suc a) d → Held net a d
+pub held-lower : (net : Network) (a : ℕ) (d : ℕ → ℕ) → Walked net (suc a) d → Walked net a d
 held-lower net a d so v h = let r = so v h in (r .0, r .1, omega arith, r .3)

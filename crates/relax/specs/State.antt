@@ -8,7 +8,7 @@ use Rattle.front.specs.Pair.{pairOf}
 use Rattle.parts.specs.Study.{arcsFrom}
 use Rattle.network.specs.Walk.{Network}
 use Rattle.relax.specs.declared.Step.{Step}
-use Rattle.relax.specs.Labels.{Held}
+use Rattle.relax.specs.Labels.{Walked}
 
 -- all that stays as it is during a search: arc bytes, each node's class 1 and class 2 capacity, the ends, the class sizes
 pub record Graph : Type 0 where
@@ -37,8 +37,8 @@ moved at x l v n =
     record { source = at .source; target = at .target; n1 = at .n1; n2 = at .n2; x = record { 0 = x }; level = record { 0 = l }; node = v; top = n }
 
 -- the network that it is
-abbrev pub net : Graph → Network
-net f =
+abbrev pub graphNetwork : Graph → Network
+graphNetwork f =
     record {
       arcs = arcsFrom 0 (f .arcs);
       node = λ v. pairOf (getD (f .entry) v 0) (getD (f .cap) v 0);
@@ -48,11 +48,11 @@ net f =
     }
 
 -- the ends of the arc at place j
-abbrev pub from : List ℕ → ℕ → ℕ
-from arcs j = getD arcs (arcSize * j) 0
+abbrev pub fromAt : List ℕ → ℕ → ℕ
+fromAt arcs j = getD arcs (arcSize * j) 0
 
-abbrev pub to : List ℕ → ℕ → ℕ
-to arcs j = getD arcs (arcSize * j + 1) 0
+abbrev pub toAt : List ℕ → ℕ → ℕ
+toAt arcs j = getD arcs (arcSize * j + 1) 0
 
 -- what the search is given: ends of arcs are nodes, capacities are in range, and no two nodes share a class 2 position
 pub record Laid (f : Graph) : Type 0 where
@@ -84,13 +84,13 @@ pub record Laid (f : Graph) : Type 0 where
 -- the first n places, each in the chain of the node that its arc leads to, the later place first; a place is kept as one more, and 0 ends a chain
 pub record Chains (arcs first more : List ℕ) (n : ℕ) : Type 0 where
   -- every place is in reach of the head of its node's chain
-  pub head : (j : ℕ) → j < n → j < getD first (to arcs j) 0
+  pub head : (j : ℕ) → j < n → j < getD first (toAt arcs j) 0
   -- the head of a node's chain is a place of an arc into it
-  pub head-is : (v p : ℕ) → getD first v 0 ≡ suc p → (p < n) × (to arcs p ≡ v)
+  pub head-is : (v p : ℕ) → getD first v 0 ≡ suc p → (p < n) × (toAt arcs p ≡ v)
   -- from a place on, no earlier place into the same node is jumped over
-  pub gap : (j p : ℕ) → j < p → p < n → to arcs j ≡ to arcs p → j < getD more p 0
+  pub gap : (j p : ℕ) → j < p → p < n → toAt arcs j ≡ toAt arcs p → j < getD more p 0
   -- the next place in a chain is earlier and into the same node
-  pub back : (p q : ℕ) → p < n → getD more p 0 ≡ suc q → (q < p) × (to arcs q ≡ to arcs p)
+  pub back : (p q : ℕ) → p < n → getD more p 0 ≡ suc q → (q < p) × (toAt arcs q ≡ toAt arcs p)
 
 -- how many labels are below l
 abbrev pub low : ℕ → List ℕ → ℕ
@@ -99,7 +99,7 @@ low l (x ∷ d) = min 1 (l - x) + low l d
 
 -- the arc at j raises no label above that of s
 abbrev pub Quiet : Graph → List ℕ → ℕ → Type 0
-Quiet f d j = min (getD (f .cap) (from (f .arcs) j) 0) (getD d (to (f .arcs) j) 0) ≤ max (getD d (from (f .arcs) j) 0) (getD d (f .source) 0)
+Quiet f d j = min (getD (f .cap) (fromAt (f .arcs) j) 0) (getD d (toAt (f .arcs) j) 0) ≤ max (getD d (fromAt (f .arcs) j) 0) (getD d (f .source) 0)
 
 -- w is in, and its label is l
 pub record Ripe (f : Graph) (a l : ℕ) (d : List ℕ) (w : ℕ) : Type 0 where
@@ -122,9 +122,9 @@ pub record Waits (f : Graph) (l : ℕ) (d wait : List ℕ) (w : ℕ) : Type 0 wh
 -- why the arc at j needs no look now: it is quiet, or the node it leads to is on the stack, or waits, or is at work and the arc is left in its chain
 pub data Why (f : Graph) (l : ℕ) (d stack wait : List ℕ) (top v i j : ℕ) : Type 0 where
   quiet : Quiet f d j → Why f l d stack wait top v i j
-  piled : (k : ℕ) → k < top → getD stack k 0 ≡ to (f .arcs) j → Why f l d stack wait top v i j
-  waits : Waits f l d wait (to (f .arcs) j) → Why f l d stack wait top v i j
-  left : to (f .arcs) j ≡ v → j < i → Why f l d stack wait top v i j
+  piled : (k : ℕ) → k < top → getD stack k 0 ≡ toAt (f .arcs) j → Why f l d stack wait top v i j
+  waits : Waits f l d wait (toAt (f .arcs) j) → Why f l d stack wait top v i j
+  left : toAt (f .arcs) j ≡ v → j < i → Why f l d stack wait top v i j
 
 -- the levels that wait: each names, as one more, the class 2 node of that position, which has its label
 pub record Named (f : Graph) (d : List ℕ) (c w : ℕ) : Type 0 where
@@ -153,7 +153,7 @@ pub record Work (f : Graph) (a l : ℕ) (d stack wait : List ℕ) (top v i : ℕ
   -- every level has a mark
   pub long-wait : maxPosition + 1 ≤ length wait
   -- each label has a walk to the target
-  pub held : Held (net f) a (λ v. getD d v 0)
+  pub held : Walked (graphNetwork f) a (λ v. getD d v 0)
   -- no more failures than class 1 has
   pub early : a ≤ f .n1
   -- the level is above 0
@@ -167,14 +167,14 @@ pub record Work (f : Graph) (a l : ℕ) (d stack wait : List ℕ) (top v i : ℕ
   -- on the stack: nodes that are in, at this level
   pub pile : (k : ℕ) → k < top → Ripe f a l d (getD stack k 0)
   -- the node at work is one of them, and place i - 1 is in its chain
-  pub going : 0 < i → Ripe f a l d v × (i ≤ arcCount (f .arcs)) × (to (f .arcs) (i - 1) ≡ v)
+  pub going : 0 < i → Ripe f a l d v × (i ≤ arcCount (f .arcs)) × (toAt (f .arcs) (i - 1) ≡ v)
   -- what waits is named
   pub marked : Marked f d wait
   -- every arc into a node that is in is seen to
-  pub why : (j : ℕ) → j < arcCount (f .arcs) → a < getD (f .entry) (to (f .arcs) j) 0 → Why f l d stack wait top v i j
+  pub why : (j : ℕ) → j < arcCount (f .arcs) → a < getD (f .entry) (toAt (f .arcs) j) 0 → Why f l d stack wait top v i j
 
 -- the largest level that waits, between floor and l, or 0
-pub record Next (wait : List ℕ) (l floor r : ℕ) : Type 0 where
+pub record NextLevel (wait : List ℕ) (l floor r : ℕ) : Type 0 where
   -- no level waits above it
   pub none : (c : ℕ) → max r floor < c → c < l → getD wait c 0 ≡ 0
   -- it is above the floor, below l, and waits
@@ -195,7 +195,7 @@ pub record Still (f : Graph) (a : ℕ) (d wait : List ℕ) : Type 0 where
   -- every level has a mark
   pub long-wait : maxPosition + 1 ≤ length wait
   -- each label has a walk to the target
-  pub held : Held (net f) a (λ v. getD d v 0)
+  pub held : Walked (graphNetwork f) a (λ v. getD d v 0)
   -- once both ends are in, the target has its capacity
   pub at-t : a < start f → getD (f .cap) (f .target) 0 ≤ getD d (f .target) 0
   -- before that there is no label
@@ -203,7 +203,7 @@ pub record Still (f : Graph) (a : ℕ) (d wait : List ℕ) : Type 0 where
   -- what waits is named
   pub marked : Marked f d wait
   -- no arc into a node that is in raises a label above that of the source
-  pub calm : (j : ℕ) → j < arcCount (f .arcs) → a < getD (f .entry) (to (f .arcs) j) 0 → Quiet f d j
+  pub calm : (j : ℕ) → j < arcCount (f .arcs) → a < getD (f .entry) (toAt (f .arcs) j) 0 → Quiet f d j
 
 -- a spread keeps the lengths, and each push lowers the count of low labels
 pub record Kept (l : ℕ) (d₀ stack₀ wait₀ : List ℕ) (top₀ : ℕ) (d stack wait : List ℕ) (top : ℕ) : Type 0 where

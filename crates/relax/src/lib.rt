@@ -72,11 +72,15 @@ pub fn spread(
     stack: &mut [u8],
     wait: &mut [u8],
 ) -> usize
-    requires work { ⌜ Work (graphOf (now arcs) (now entry) (now cap) at) (at .x .0 - 1) (at .level .0) (now label) (now stack) (now wait) (at .top) (at .node) (getD (now first) (at .node) 0) ⌝ }
+    requires work { ⌜ Work (graphOf (now arcs) (now entry) (now cap) at) (at .x .0 - 1) (at .level .0) (now label) (now stack) (now wait) (at .top)
+        (at .node) (getD (now first) (at .node) 0) ⌝ }
     requires chains { ⌜ Chains (now arcs) (now first) (now more) (arcCount (now arcs)) ⌝ }
-    requires room { ⌜ (0 < at .x .0) × (length (now label) ≤ length (now stack)) × (at .node < length (now first)) × (arcCount (now arcs) ≤ length (now more)) ⌝ }
-    ensures work { λ r. ⌜ Work (graphOf (now (arcs .entry)) (now (entry .entry)) (now (cap .entry)) at) (at .x .0 - 1) (at .level .0) (now (label .exit)) (now (stack .exit)) (now (wait .exit)) r (at .node) 0 ⌝ }
-    ensures kept { λ r. ⌜ Kept (at .level .0) (now (label .entry)) (now (stack .entry)) (now (wait .entry)) (at .top) (now (label .exit)) (now (stack .exit)) (now (wait .exit)) r ⌝ }
+    requires room { ⌜ (0 < at .x .0) × (length (now label) ≤ length (now stack)) × (at .node < length (now first))
+        × (arcCount (now arcs) ≤ length (now more)) ⌝ }
+    ensures work { λ r. ⌜ Work (graphOf (now (arcs .entry)) (now (entry .entry)) (now (cap .entry)) at) (at .x .0 - 1) (at .level .0) (now (label .exit))
+        (now (stack .exit)) (now (wait .exit)) r (at .node) 0 ⌝ }
+    ensures kept { λ r. ⌜ Kept (at .level .0) (now (label .entry)) (now (stack .entry)) (now (wait .entry)) (at .top) (now (label .exit))
+        (now (stack .exit)) (now (wait .exit)) r ⌝ }
 {
     let mut top = at.top;
     let mut i = wide_two(first[wide(at.node)]);

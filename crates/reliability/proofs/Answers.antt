@@ -12,7 +12,7 @@ use Rattle.laws.specs.Members.{here, there}
 use Rattle.answer.specs.Outcome.{success, refused, outcome}
 use Rattle.answer.proofs.Outcomes.{outcome-tests, outcome-success, outcome-values, outcome-refused, outcome-passed}
 use Rattle.chance.specs.Chance.{rateR, Near}
-use Rattle.soundness.specs.Tally.{size1, size2, rounds, cell, stateTests, stateAnswer}
+use Rattle.soundness.specs.Tally.{tallySize1, tallySize2, rounds, cell, stateTests, stateAnswer}
 use Rattle.chance.proofs.Bounds.{near-formula}
 use Rattle.soundness.proofs.States.{state-sound}
 use Rattle.reliability.specs.Calls.{tallyS, rateTests, rateAnswer, Ratable}
@@ -52,7 +52,7 @@ module _ (t : List ℕ) (p1 p2 : ℕ) where
         rate-done = sym (rest ∙ rw (ne-eqb (rounds t) 0 some))
 
   -- DEMAND 2 of a tally, from the call's answer
-  pub near : (s m r : ℕ) → rateAnswer t p1 p2 ≡ success (s ∷ m ∷ r ∷ []) → (m ≡ rounds t) × Near (size1 t) (size2 t) p1 p2 (cell t) s m r
+  pub near : (s m r : ℕ) → rateAnswer t p1 p2 ≡ success (s ∷ m ∷ r ∷ []) → (m ≡ rounds t) × Near (tallySize1 t) (tallySize2 t) p1 p2 (cell t) s m r
   near s m r e =
       let v = outcome-values (rateTests t p1 p2) values (s ∷ m ∷ r ∷ []) e in
       let a = outcome-tests (rateTests t p1 p2) values (e ∙ ap success (sym v)) in
@@ -60,4 +60,4 @@ module _ (t : List ℕ) (p1 p2 : ℕ) where
       let g = state-sound t (outcome-success (stateTests t) (0 ∷ []) (λ x i. a x (there (Memᴰ·append-left last i)))) .grows in
       let some = pos-of-ne-zero (eqb-false (rounds t) 0 (a (25, eqb (rounds t) 0) (there (there (there here))))) in
       let many = ap (λ l. getD l 1 0) v in
-      (sym many, rw (← ap (λ l. getD l 0 0) v, ← many, ← ap (λ l. getD l 2 0) v) (near-formula (size1 t) (size2 t) (rounds t) p1 p2 (cell t) (k .0) (k .1) g some))
+      (sym many, rw (← ap (λ l. getD l 0 0) v, ← many, ← ap (λ l. getD l 2 0) v) (near-formula (tallySize1 t) (tallySize2 t) (rounds t) p1 p2 (cell t) (k .0) (k .1) g some))

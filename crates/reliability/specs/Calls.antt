@@ -8,11 +8,11 @@ use lib.ListN.{getD}
 use Rattle.laws.specs.Sums.{sumTo}
 use Rattle.answer.specs.Outcome.{Outcome, success, outcome}
 use Rattle.chance.specs.Chance.{sumS, rateR}
-use Rattle.soundness.specs.Tally.{size1, size2, rounds, width, cell, stateTests, stateAnswer}
+use Rattle.soundness.specs.Tally.{tallySize1, tallySize2, rounds, width, cell, stateTests, stateAnswer}
 
 -- S of a tally at the chances p1 and p2
 abbrev pub tallyS : List ℕ → ℕ → ℕ → ℕ
-tallyS t p1 p2 = sumS (size1 t) (size2 t) p1 p2 (cell t)
+tallyS t p1 p2 = sumS (tallySize1 t) (tallySize2 t) p1 p2 (cell t)
 
 -- RELIABILITY (14, 21, 22, 25): S, M and R
 abbrev pub rateTests : List ℕ → ℕ → ℕ → List (ℕ × Bool)

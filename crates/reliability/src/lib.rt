@@ -31,7 +31,9 @@ fn row(cells: &[u32], at: usize, v: &[u32], n: usize) -> u64
 
 // Document 01's S: the rows, each times the weight of its count.
 fn total(cells: &[u32], u: &[u32], v: &[u32], n1: usize, n2: usize) -> u64
-    requires { ⌜ (n1 ≤ maxClass) × (n2 ≤ maxClass) × ((n1 + 1) * (n2 + 1) ≤ length (now cells)) × (n1 < length (now u)) × (n2 < length (now v)) × ((l1 : ℕ) → l1 ≤ n1 → rowSum (now cells) (l1 * (n2 + 1)) (now v) (n2 + 1) ≤ 1000000000000) × (rowsSum (now cells) (now u) (now v) n2 (n1 + 1) ≤ 10000000000000000000) ⌝ }
+    requires { ⌜ (n1 ≤ maxClass) × (n2 ≤ maxClass) × ((n1 + 1) * (n2 + 1) ≤ length (now cells)) × (n1 < length (now u)) × (n2 < length (now v))
+        × ((l1 : ℕ) → l1 ≤ n1 → rowSum (now cells) (l1 * (n2 + 1)) (now v) (n2 + 1) ≤ 1000000000000)
+        × (rowsSum (now cells) (now u) (now v) n2 (n1 + 1) ≤ 10000000000000000000) ⌝ }
     ensures { λ r. ⌜ r ≡ rowsSum (now (cells .entry)) (now (u .entry)) (now (v .entry)) n2 (n1 + 1) ⌝ }
 {
     let w = n2 + 1;
@@ -49,7 +51,8 @@ fn total(cells: &[u32], u: &[u32], v: &[u32], n1: usize, n2: usize) -> u64
 // S, M and R of a sound tally of some rounds.
 fn rate_of(tally: &[u32], p1: u32, p2: u32) -> Rate
     requires { ⌜ Ratable (now tally) p1 p2 ⌝ }
-    ensures { λ r. ⌜ (r .sum ≡ tallyS (now (tally .entry)) p1 p2) × (r .rounds ≡ rounds (now (tally .entry))) × (r .rate ≡ rateR (tallyS (now (tally .entry)) p1 p2) (rounds (now (tally .entry)))) ⌝ }
+    ensures { λ r. ⌜ (r .sum ≡ tallyS (now (tally .entry)) p1 p2) × (r .rounds ≡ rounds (now (tally .entry)))
+        × (r .rate ≡ rateR (tallyS (now (tally .entry)) p1 p2) (rounds (now (tally .entry)))) ⌝ }
 {
     let n1 = tally[0] as usize;
     let n2 = tally[1] as usize;

@@ -1,5 +1,5 @@
 // The whole library on generated networks, against removal testing: opening, searches and plans,
-// every front at every (a, b) and the small ones against all paths, tallies, and reliability by
+// every front at every (a, b) and the small ones against all routes, tallies, and reliability by
 // exact arithmetic. Then every refusal of every call.
 
 use answer::Opened;
@@ -28,7 +28,7 @@ struct Net {
 }
 
 // ---- rounds
-// 1 where a record is not that of all paths one by one.
+// 1 where a record is not that of all routes one by one.
 fn paths_wrong(arcs: &[u8], order1: &[u8], order2: &[u8], ends: Ends, front: &[u8]) -> u64
     ensures { λ r. ⌜ r ≤ 1 ⌝ }
 {
@@ -37,7 +37,7 @@ fn paths_wrong(arcs: &[u8], order1: &[u8], order2: &[u8], ends: Ends, front: &[u
     flag(!equal(front, part(&want, 0, m)))
 }
 
-// Searches a round, and compares it with removal testing and, where asked, with all its paths.
+// Searches a round, and compares it with removal testing and, where asked, with all its routes.
 fn try_round(
     net: Net,
     file: &[u8],
@@ -267,7 +267,7 @@ fn show(counts: &[u64]) {
     line(b"rounds searched ", count(counts, slots::SEARCHED));
     line(b"pairs listed ", count(counts, slots::PAIRS));
     line(
-        b"rounds compared with all paths ",
+        b"rounds compared with all routes ",
         count(counts, slots::PATHS),
     );
     line(b"plans ", count(counts, slots::PLANS));

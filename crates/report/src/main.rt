@@ -18,7 +18,7 @@ ghost use Rattle.record.specs.Record.{isRecord};
 ghost use Rattle.tally.specs.Calls.{addOut};
 ghost use Rattle.tally.specs.Adds.{succeeds};
 ghost use Rattle.lines.specs.Text.{lineRoom, frontLine};
-ghost use Rattle.lines.specs.Report.{searched, roundLine, roundTally, reportOpens, reportLines, lineAt, Due, Next, SentOf};
+ghost use Rattle.lines.specs.Report.{roundAnswer, roundLine, roundTally, reportOpens, reportLines, lineAt, Due, NextLine, SentOf};
 
 // A line in the buffer, and whether another follows.
 struct Line {
@@ -40,7 +40,7 @@ fn add_front(round: usize, record: &[u8], tally: &mut [u32], out: &mut [u8]) -> 
 // The line of a round.
 fn round_line(file: &[u8], round: usize, tally: &mut [u32], out: &mut [u8]) -> Line
     requires { ⌜ lineRoom ≤ length (now out) ⌝ }
-    ensures told { λ r. ⌜ (r .length ≡ length (roundLine (now (file .entry)) round)) × (r .more ≡ succeeds (searched (now (file .entry)) round)) ⌝ }
+    ensures told { λ r. ⌜ (r .length ≡ length (roundLine (now (file .entry)) round)) × (r .more ≡ succeeds (roundAnswer (now (file .entry)) round)) ⌝ }
     ensures slice { λ _. ⌜ now (out .exit) ≡ placed 0 (roundLine (now (file .entry)) round) (now (out .entry)) ⌝ }
     ensures tally { λ _. ⌜ now (tally .exit) ≡ roundTally (now (file .entry)) round (now (tally .entry)) ⌝ }
 {
@@ -62,7 +62,7 @@ fn study_line(file: &[u8], h: Header, i: usize, tally: &mut [u32], out: &mut [u8
     requires { ⌜ (lineRoom ≤ length (now out)) × (reportOpens (now file) ≡ success (headerValues h)) × Due (now file) (headerValues h) i (now tally) ⌝ }
     ensures end { λ r. ⌜ r .length ≡ length (lineAt (now (file .entry)) i) ⌝ }
     ensures slice { λ _. ⌜ now (out .exit) ≡ placed 0 (lineAt (now (file .entry)) i) (now (out .entry)) ⌝ }
-    ensures next { λ r. ⌜ Next (now (file .entry)) (headerValues h) i (r .more) (now (tally .exit)) ⌝ }
+    ensures next { λ r. ⌜ NextLine (now (file .entry)) (headerValues h) i (r .more) (now (tally .exit)) ⌝ }
 {
     if i == 0 {
         return Line {

@@ -16,7 +16,7 @@ use Rattle.laws.specs.Tests.{T-ext, T-true, and-both, order}
 use Rattle.laws.specs.Every.{every, every-at, every-all}
 use Rattle.chance.specs.Chance.{Grows}
 use Rattle.chance.proofs.Bounds.{rising-all}
-use Rattle.soundness.specs.Tally.{head, size1, size2, rounds, width, cell, fair, isSound, Sound, risesBy, rowsRise, isFair}
+use Rattle.soundness.specs.Tally.{headWords, tallySize1, tallySize2, rounds, width, cell, fair, isSound, Sound, risesBy, rowsRise, isFair}
 
 both : {a b : Bool} → a ≡ true → b ≡ true → a && b ≡ true
 both e f = rw (e, f)
@@ -34,10 +34,10 @@ unless-is n l x y h = ⊎-elim (λ k. rw (le-leb n l k)) (λ k. rw (lt-leb n l k
 
 module _ (t : List ℕ) where
   abbrev n1 : ℕ
-  n1 = size1 t
+  n1 = tallySize1 t
 
   abbrev n2 : ℕ
-  n2 = size2 t
+  n2 = tallySize2 t
 
   abbrev m : ℕ
   m = rounds t
@@ -81,10 +81,10 @@ module _ (t : List ℕ) where
 
   -- ---- as the code has it
   abbrev cells : List ℕ
-  cells = drop head t
+  cells = drop headWords t
 
   at-cell : (l1 l2 k : ℕ) → k ≡ l1 * width n2 + l2 → getD cells k 0 ≡ cell t l1 l2
-  at-cell l1 l2 k e = getD-drop head t k 0 ∙ ap (λ i. getD t (head + i) 0) e
+  at-cell l1 l2 k e = getD-drop headWords t k 0 ∙ ap (λ i. getD t (headWords + i) 0) e
 
   -- one row on
   next-row : (l1 l2 i : ℕ) → i ≡ l1 * width n2 + l2 → 0 + i + width n2 ≡ suc l1 * width n2 + l2

@@ -13,7 +13,7 @@ use Rattle.laws.specs.Tests.{or-none}
 use Rattle.laws.specs.Members.{here, there}
 use Rattle.answer.specs.Outcome.{success, refused}
 use Rattle.answer.proofs.Outcomes.{outcome-tests}
-use Rattle.soundness.specs.Tally.{head, size1, size2, rounds, words, noRoom, isSound, Sound, isFair, stateTests, stateAnswer}
+use Rattle.soundness.specs.Tally.{headWords, tallySize1, tallySize2, rounds, words, noRoom, isSound, Sound, isFair, stateTests, stateAnswer}
 use Rattle.soundness.proofs.Sounds.{fair-code, sound-is}
 
 -- one of two sizes is too large, or none
@@ -39,35 +39,35 @@ module _ (t : List ℕ) where
   unsound : noRoom t ≡ false → isSound t ≡ false → stateAnswer t ≡ refused 22
   unsound e f = rw (e, f)
 
-  pub too-short : length t < head → stateAnswer t ≡ refused 21
-  too-short h = rw (lt-ltb (length t) head h)
+  pub too-short : length t < headWords → stateAnswer t ≡ refused 21
+  too-short h = rw (lt-ltb (length t) headWords h)
 
-  module _ (long : head ≤ length t) where
-    pub too-large : ltb maxClass (size1 t) || ltb maxClass (size2 t) ≡ true → stateAnswer t ≡ refused 22
-    too-large e = rw (le-ltb (length t) head long, not-both (size1 t) (size2 t) e)
+  module _ (long : headWords ≤ length t) where
+    pub too-large : ltb maxClass (tallySize1 t) || ltb maxClass (tallySize2 t) ≡ true → stateAnswer t ≡ refused 22
+    too-large e = rw (le-ltb (length t) headWords long, not-both (tallySize1 t) (tallySize2 t) e)
 
-    module _ (small : ltb maxClass (size1 t) || ltb maxClass (size2 t) ≡ false) where
-      pub sizes : (size1 t ≤ maxClass) × (size2 t ≤ maxClass)
-      sizes = neither (size1 t) (size2 t) small
+    module _ (small : ltb maxClass (tallySize1 t) || ltb maxClass (tallySize2 t) ≡ false) where
+      pub sizes : (tallySize1 t ≤ maxClass) × (tallySize2 t ≤ maxClass)
+      sizes = neither (tallySize1 t) (tallySize2 t) small
 
-      pub no-cells : length t < words (size1 t) (size2 t) → stateAnswer t ≡ refused 21
-      no-cells h = rw (le-ltb (length t) head long, le-leb (size1 t) maxClass (sizes .0), le-leb (size2 t) maxClass (sizes .1), lt-ltb (length t) (words (size1 t) (size2 t)) h)
+      pub no-cells : length t < words (tallySize1 t) (tallySize2 t) → stateAnswer t ≡ refused 21
+      no-cells h = rw (le-ltb (length t) headWords long, le-leb (tallySize1 t) maxClass (sizes .0), le-leb (tallySize2 t) maxClass (sizes .1), lt-ltb (length t) (words (tallySize1 t) (tallySize2 t)) h)
 
-      module _ (room : words (size1 t) (size2 t) ≤ length t) where
+      module _ (room : words (tallySize1 t) (tallySize2 t) ≤ length t) where
         roomy : noRoom t ≡ false
-        roomy = rw (le-ltb (length t) head long, le-leb (size1 t) maxClass (sizes .0), le-leb (size2 t) maxClass (sizes .1), le-ltb (length t) (words (size1 t) (size2 t)) room)
+        roomy = rw (le-ltb (length t) headWords long, le-leb (tallySize1 t) maxClass (sizes .0), le-leb (tallySize2 t) maxClass (sizes .1), le-ltb (length t) (words (tallySize1 t) (tallySize2 t)) room)
 
         pub too-many : maxRounds < rounds t → stateAnswer t ≡ refused 22
-        too-many h = unsound roomy (rw (le-leb (size1 t) maxClass (sizes .0), le-leb (size2 t) maxClass (sizes .1), lt-leb (rounds t) maxRounds h))
+        too-many h = unsound roomy (rw (le-leb (tallySize1 t) maxClass (sizes .0), le-leb (tallySize2 t) maxClass (sizes .1), lt-leb (rounds t) maxRounds h))
 
         module _ (few : rounds t ≤ maxRounds) where
-          tested : isSound t ≡ isFair (drop head t) (size1 t) (size2 t) (rounds t)
-          tested = rw (le-leb (size1 t) maxClass (sizes .0), le-leb (size2 t) maxClass (sizes .1), le-leb (rounds t) maxRounds few) (sym (fair-code t))
+          tested : isSound t ≡ isFair (drop headWords t) (tallySize1 t) (tallySize2 t) (rounds t)
+          tested = rw (le-leb (tallySize1 t) maxClass (sizes .0), le-leb (tallySize2 t) maxClass (sizes .1), le-leb (rounds t) maxRounds few) (sym (fair-code t))
 
-          pub unfair : isFair (drop head t) (size1 t) (size2 t) (rounds t) ≡ false → stateAnswer t ≡ refused 22
+          pub unfair : isFair (drop headWords t) (tallySize1 t) (tallySize2 t) (rounds t) ≡ false → stateAnswer t ≡ refused 22
           unfair e = unsound roomy (tested ∙ e)
 
-          pub good : isFair (drop head t) (size1 t) (size2 t) (rounds t) ≡ true → stateAnswer t ≡ success (0 ∷ [])
+          pub good : isFair (drop headWords t) (tallySize1 t) (tallySize2 t) (rounds t) ≡ true → stateAnswer t ≡ success (0 ∷ [])
           good e = rw (roomy, tested ∙ e)
 
 -- ---- what a good state says
@@ -78,11 +78,11 @@ module _ (t : List ℕ) (fine : stateAnswer t ≡ success (0 ∷ [])) where
   has-room : noRoom t ≡ false
   has-room = outcome-tests (stateTests t) (0 ∷ []) fine (21, noRoom t) here
 
-  pub state-long : head ≤ length t
-  state-long = ltb-false (length t) head (or-none (ltb (length t) head) (leb (size1 t) maxClass && leb (size2 t) maxClass && ltb (length t) (words (size1 t) (size2 t))) has-room .0)
+  pub state-long : headWords ≤ length t
+  state-long = ltb-false (length t) headWords (or-none (ltb (length t) headWords) (leb (tallySize1 t) maxClass && leb (tallySize2 t) maxClass && ltb (length t) (words (tallySize1 t) (tallySize2 t))) has-room .0)
 
-  pub state-room : words (size1 t) (size2 t) ≤ length t
+  pub state-room : words (tallySize1 t) (tallySize2 t) ≤ length t
   state-room =
-      ltb-false (length t) (words (size1 t) (size2 t))
-      (rw (le-leb (size1 t) maxClass (state-sound .small1), le-leb (size2 t) maxClass (state-sound .small2)) at
-      (or-none (ltb (length t) head) (leb (size1 t) maxClass && leb (size2 t) maxClass && ltb (length t) (words (size1 t) (size2 t))) has-room .1))
+      ltb-false (length t) (words (tallySize1 t) (tallySize2 t))
+      (rw (le-leb (tallySize1 t) maxClass (state-sound .small1), le-leb (tallySize2 t) maxClass (state-sound .small2)) at
+      (or-none (ltb (length t) headWords) (leb (tallySize1 t) maxClass && leb (tallySize2 t) maxClass && ltb (length t) (words (tallySize1 t) (tallySize2 t))) has-room .1))

@@ -10,60 +10,62 @@ use Rattle.answer.specs.Outcome.{Outcome, outcome}
 use Rattle.chance.specs.Chance.{Grows}
 
 -- how many words stand in front of the cells, and the place of M
-abbrev pub head : ℕ
-head = 3
+abbrev pub headWords : ℕ
+headWords = 3
 
-abbrev pub roundsAt : ℕ
-roundsAt = 2
+abbrev pub roundsPlace : ℕ
+roundsPlace = 2
 
 -- n1, n2 and M
-abbrev pub size1 : List ℕ → ℕ
-size1 t = getD t 0 0
+abbrev pub tallySize1 : List ℕ → ℕ
+tallySize1 t = getD t 0 0
 
-abbrev pub size2 : List ℕ → ℕ
-size2 t = getD t 1 0
+abbrev pub tallySize2 : List ℕ → ℕ
+tallySize2 t = getD t 1 0
 
 abbrev pub rounds : List ℕ → ℕ
-rounds t = getD t roundsAt 0
+rounds t = getD t roundsPlace 0
 
 -- the words of a row of cells, and of a whole tally
 abbrev pub width : ℕ → ℕ
 width n2 = n2 + 1
 
 abbrev pub words : ℕ → ℕ → ℕ
-words n1 n2 = head + (n1 + 1) * width n2
+words n1 n2 = headWords + (n1 + 1) * width n2
 
 -- the words of the largest tally
 abbrev pub largest : ℕ
 largest = words maxClass maxClass
 
 abbrev pub cell : List ℕ → ℕ → ℕ → ℕ
-cell t l1 l2 = getD t (head + (l1 * width (size2 t) + l2)) 0
+cell t l1 l2 = getD t (headWords + (l1 * width (tallySize2 t) + l2)) 0
 
 -- ---- NUMBERS 21 AND 22
 -- "tally slice under 3 words, or sizes at most 64 and cells don't fit"
 abbrev pub noRoom : List ℕ → Bool
-noRoom t = ltb (length t) head || (leb (size1 t) maxClass && leb (size2 t) maxClass && ltb (length t) (words (size1 t) (size2 t)))
+noRoom t = ltb (length t) headWords || (leb (tallySize1 t) maxClass && leb (tallySize2 t) maxClass && ltb (length t) (words (tallySize1 t) (tallySize2 t)))
 
 -- a cell is not above M, and not above the next in l1 and in l2
 abbrev pub fair : List ℕ → ℕ → ℕ → Bool
 fair t l1 l2 =
     leb (cell t l1 l2) (rounds t)
-    && (leb (size1 t) l1 || leb (cell t l1 l2) (cell t (l1 + 1) l2))
-    && (leb (size2 t) l2 || leb (cell t l1 l2) (cell t l1 (l2 + 1)))
+    && (leb (tallySize1 t) l1 || leb (cell t l1 l2) (cell t (l1 + 1) l2))
+    && (leb (tallySize2 t) l2 || leb (cell t l1 l2) (cell t l1 (l2 + 1)))
 
 -- "sound when n1 and n2 are at most 64, M at most 100,000, no cell is above M, and no cell falls as l1 or l2 grows"
 abbrev pub isSound : List ℕ → Bool
-isSound t = leb (size1 t) maxClass && leb (size2 t) maxClass && leb (rounds t) maxRounds && every (size1 t + 1) (λ l1. every (size2 t + 1) (λ l2. fair t l1 l2))
+isSound t =
+    leb (tallySize1 t) maxClass && leb (tallySize2 t) maxClass && leb (rounds t) maxRounds
+    && every (tallySize1 t + 1) (λ l1. every (tallySize2 t + 1) (λ l2. fair t l1 l2))
 
 -- what the test says
 pub record Sound (t : List ℕ) : Type 0 where
   -- n1 and n2 are at most 64, M at most 100,000
-  pub small1 : size1 t ≤ maxClass
-  pub small2 : size2 t ≤ maxClass
+  pub small1 : tallySize1 t ≤ maxClass
+  pub small2 : tallySize2 t ≤ maxClass
   pub few : rounds t ≤ maxRounds
   -- no cell is above M, and none falls as l1 or l2 grows
-  pub grows : Grows (size1 t) (size2 t) (rounds t) (cell t)
+  pub grows : Grows (tallySize1 t) (tallySize2 t) (rounds t) (cell t)
 
 -- ---- A TALLY'S STATE (21, 22)
 abbrev pub stateTests : List ℕ → List (ℕ × Bool)

@@ -13,15 +13,15 @@ use Rattle.laws.specs.Sums.{sumTo, sum-same}
 use Rattle.laws.specs.Tests.{and-both, flag}
 use Rattle.answer.specs.Outcome.{success}
 use Rattle.answer.proofs.Outcomes.{outcome-tests}
-use Rattle.record.specs.Record.{size1 as recordSize1, size2 as recordSize2, recordHolds}
+use Rattle.record.specs.Record.{recordSize1, recordSize2, recordHolds}
 use Rattle.chance.specs.Chance.{exact, sumE, Near}
 use Rattle.sections.specs.File.{studyOf}
-use Rattle.network.specs.Round.{size1 as studySize1, size2 as studySize2, RoundHolds}
+use Rattle.network.specs.Round.{studySize1, studySize2, RoundHolds}
 use Rattle.search.proofs.Claims.{claims}
 use Rattle.plan.specs.Calls.{Searched}
 use Rattle.plan.proofs.Told.{through-same, search-wrote, search-passed}
-use Rattle.soundness.specs.Tally.{size1, size2, rounds, cell, Sound}
-use Rattle.tally.specs.Calls.{newAnswer, newOut, sameSizes, addTests, addAnswer, addOut}
+use Rattle.soundness.specs.Tally.{tallySize1, tallySize2, rounds, cell, Sound}
+use Rattle.tally.specs.Calls.{newAnswer, newOut, fitsTally, addTests, addAnswer, addOut}
 use Rattle.tally.specs.Adds.{succeeds, holding, Tallies}
 use Rattle.tally.proofs.Runs.{new-tallies, add-tallies, holding-snoc}
 use Rattle.reliability.specs.Calls.{rateAnswer}
@@ -60,11 +60,11 @@ module _ {x u t : List ℕ} (a : Added x u t) where
   pub add-left : addOut x u ≡ t
   add-left = ap₂ addOut (sym (a .record-is)) (sym (a .tally-is)) ∙ sym (a .made .kept .1) ∙ through-same (a .through)
 
-  pub add-sizes : (recordSize1 x ≡ size1 u) × (recordSize2 x ≡ size2 u)
+  pub add-sizes : (recordSize1 x ≡ tallySize1 u) × (recordSize2 x ≡ tallySize2 u)
   add-sizes =
-      let e = not-false (sameSizes x u) (outcome-tests (addTests x u) (0 ∷ []) add-answer (23, not (sameSizes x u)) (there (there (there here)))) in
-      let k = and-both (eqb (recordSize1 x) (size1 u)) (eqb (recordSize2 x) (size2 u)) e in
-      (eqb-true (recordSize1 x) (size1 u) (k .0), eqb-true (recordSize2 x) (size2 u) (k .1))
+      let e = not-false (fitsTally x u) (outcome-tests (addTests x u) (0 ∷ []) add-answer (23, not (fitsTally x u)) (there (there (there here)))) in
+      let k = and-both (eqb (recordSize1 x) (tallySize1 u)) (eqb (recordSize2 x) (tallySize2 u)) e in
+      (eqb-true (recordSize1 x) (tallySize1 u) (k .0), eqb-true (recordSize2 x) (tallySize2 u) (k .1))
 
 pub record Run (n1 n2 : ℕ) (xs : List (List ℕ)) (t : List ℕ) : Type 0 where
   pub slice : List ℕ
@@ -101,7 +101,7 @@ count-holding (x ∷ xs) a b = go (recordHolds x a b) (count-holding xs a b)
     go false c = inr ((λ t. t), subst (Count (λ x. T (recordHolds x a b)) xs) (omega arith) c)
 
 module _ (n1 n2 : ℕ) (xs : List (List ℕ)) (t : List ℕ) (w : Tallied n1 n2 xs t) where
-  pub sizes : (size1 t ≡ n1) × (size2 t ≡ n2)
+  pub sizes : (tallySize1 t ≡ n1) × (tallySize2 t ≡ n2)
   sizes = let s = run n1 n2 xs t w .tallies in (s .one, s .two)
 
   pub many : rounds t ≡ length xs
@@ -164,7 +164,7 @@ pub counts : (n1 n2 : ℕ) (qs : List (List ℕ × ℕ)) (xs : List (List ℕ)) 
 counts n1 n2 qs xs t w a l1 l2 h k = joined n1 n2 qs xs t w a l1 l2 (cell t l1 l2) (cells n1 n2 xs t w l1 l2 h k)
 
 -- ---- reliability of any tally
-pub rated : (t : List ℕ) (p1 p2 s m r : ℕ) → Rating t p1 p2 s m r → (m ≡ rounds t) × Near (size1 t) (size2 t) p1 p2 (cell t) s m r
+pub rated : (t : List ℕ) (p1 p2 s m r : ℕ) → Rating t p1 p2 s m r → (m ≡ rounds t) × Near (tallySize1 t) (tallySize2 t) p1 p2 (cell t) s m r
 rated t p1 p2 s m r a =
     let c = a .made in
     answers.near t p1 p2 s m r

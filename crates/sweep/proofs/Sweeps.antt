@@ -12,11 +12,11 @@ use Rattle.front.specs.Pair.{pairOf, holdsAt}
 use Rattle.front.specs.Front.{holds, Within, AllWithin}
 use Rattle.front.proofs.Pairs.{holds-is}
 use Rattle.front.proofs.Fronts.{holds-fewer}
-use Rattle.record.specs.Record.{size1, size2, listed, frontBytes}
+use Rattle.record.specs.Record.{recordSize1, recordSize2, listed, frontBytes}
 use Rattle.buffer.specs.Buffer.{longest, recordIn, Puttable}
 use Rattle.buffer.proofs.Collects.{Collects, collects-puttable, collects-more, collects-all}
-use Rattle.network.specs.Walk.{pathPairs}
-use Rattle.relax.specs.State.{Graph, net}
+use Rattle.network.specs.Walk.{routePairs}
+use Rattle.relax.specs.State.{Graph, graphNetwork}
 use Rattle.sweep.specs.Sweep.{whole, below}
 
 module _ (f : Graph) where
@@ -71,7 +71,7 @@ module _ (f : Graph) where
         pub rise-puttable : Puttable buf (pairOf x y)
         rise-puttable = collects-puttable c (pairOf x y) w (omega arith)
 
-        pub rise-height : {buf′ : List ℕ} → length buf′ ≡ longest → recordIn buf′ ≡ frontBytes (size1 buf) (size2 buf) (listed (recordIn buf) ++ (pairOf x y ∷ []))
+        pub rise-height : {buf′ : List ℕ} → length buf′ ≡ longest → recordIn buf′ ≡ frontBytes (recordSize1 buf) (recordSize2 buf) (listed (recordIn buf) ++ (pairOf x y ∷ []))
             → Collects (f .n1) (f .n2) (whole f) (below f a) a buf′
         rise-height l e =
             collects-more c (pairOf x y) w (omega arith) l e
@@ -88,11 +88,11 @@ module _ (f : Graph) where
                 (λ lt. inr (below-is a u v .1 (lt, k .1))) (order a u)
 
             from : (u v : ℕ) → T (holdsAt (pairOf x y) u v) → (u < x) × T (whole f u v)
-            from u v t = let k = holds-is (pairOf x y) u v .0 t in (k .0, holds-fewer (pathPairs (net f)) u a v v (omega (arith, k .0)) (omega arith) (now v .1 (k .1)))
+            from u v t = let k = holds-is (pairOf x y) u v .0 t in (k .0, holds-fewer (routePairs (graphNetwork f)) u a v v (omega (arith, k .0)) (omega arith) (now v .1 (k .1)))
 
   -- nothing lies below 0: the record is the front
-  pub all-collected : {buf : List ℕ} → Collects (f .n1) (f .n2) (whole f) (below f 0) 0 buf → AllWithin (f .n1) (f .n2) (pathPairs (net f)) → recordIn buf ≡ frontBytes (f .n1) (f .n2) (pathPairs (net f))
-  all-collected c w = collects-all c (pathPairs (net f)) w (λ x y. refl) (λ u v. none u v)
+  pub all-collected : {buf : List ℕ} → Collects (f .n1) (f .n2) (whole f) (below f 0) 0 buf → AllWithin (f .n1) (f .n2) (routePairs (graphNetwork f)) → recordIn buf ≡ frontBytes (f .n1) (f .n2) (routePairs (graphNetwork f))
+  all-collected c w = collects-all c (routePairs (graphNetwork f)) w (λ x y. refl) (λ u v. none u v)
     where
       none : (u v : ℕ) → below f 0 u v ≡ false
       none u v = T-ext (below f 0 u v) false (λ t. absurd (omega (arith, below-is 0 u v .0 t .0)), λ t. absurd t)

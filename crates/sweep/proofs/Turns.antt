@@ -14,11 +14,11 @@ use Rattle.front.specs.Pair.{pairOf, holdsAt}
 use Rattle.front.specs.Front.{Within, AllWithin}
 use Rattle.front.proofs.Pairs.{holds-is}
 use Rattle.front.proofs.Fronts.{holds-fewer}
-use Rattle.record.specs.Record.{size1, size2, listed, frontBytes}
+use Rattle.record.specs.Record.{recordSize1, recordSize2, listed, frontBytes}
 use Rattle.buffer.specs.Buffer.{longest, recordIn, Puttable}
 use Rattle.buffer.proofs.Collects.{Collects, collects-none}
-use Rattle.network.specs.Walk.{pathPairs}
-use Rattle.relax.specs.State.{Graph, Laid, Chains, Work, Still, Room, Lengths, net, start}
+use Rattle.network.specs.Walk.{routePairs}
+use Rattle.relax.specs.State.{Graph, Laid, Chains, Work, Still, Room, Lengths, graphNetwork, start}
 use Rattle.labels.proofs.Drains.{skipped, entered, first-in}
 use Rattle.labels.proofs.Rests.{at-rest, at-first}
 use Rattle.sweep.specs.Sweep.{whole, below, ByOrder, NextIn}
@@ -42,8 +42,8 @@ pub record Sweeping (f : Graph) (first more order label stack wait found : List 
   pub height : Height f x last
   -- what is collected, and that the rest lies below x
   pub done : Collects (f .n1) (f .n2) (whole f) (below f x) x found
-  -- no path's pair is out of range
-  pub within : AllWithin (f .n1) (f .n2) (pathPairs (net f))
+  -- no route's pair is out of range
+  pub within : AllWithin (f .n1) (f .n2) (routePairs (graphNetwork f))
 
 -- past nodes whose label is not above that of the source nothing changes
 module _ {f : Graph} {order : List ℕ} (o : ByOrder f order) {d wait buf : List ℕ} where
@@ -60,11 +60,11 @@ module _ {f : Graph} {order : List ℕ} (o : ByOrder f order) {d wait buf : List
       (sides (suc a) r)
 
 -- no height is above n2 + 1
-height-most : (f : Graph) (a y : ℕ) → AllWithin (f .n1) (f .n2) (pathPairs (net f)) → Height f a y → y ≤ suc (f .n2)
+height-most : (f : Graph) (a y : ℕ) → AllWithin (f .n1) (f .n2) (routePairs (graphNetwork f)) → Height f a y → y ≤ suc (f .n2)
 height-most f a y w h =
     ⊎-elim (λ le. le)
     (λ lt.
-    let r = any-out (λ p. holdsAt p a (suc (f .n2))) (pathPairs (net f)) (h (suc (f .n2)) .1 lt) in
+    let r = any-out (λ p. holdsAt p a (suc (f .n2))) (routePairs (graphNetwork f)) (h (suc (f .n2)) .1 lt) in
     absurd (omega (arith, w (r .0) (r .1), holds-is (r .0) a (suc (f .n2)) .0 (r .2))))
     (sides y (suc (f .n2)))
 
@@ -88,7 +88,7 @@ module _ {f : Graph} {first more order label stack wait found : List ℕ} {x nod
   puttable h = rise-puttable f (w .done) (x - 1) y last up now (w .height) h (inside h)
 
   -- what is collected then
-  pub collected : {found₁ : List ℕ} → length found₁ ≡ longest → (y ≤ last → found₁ ≡ found) → (last < y → recordIn found₁ ≡ frontBytes (size1 found) (size2 found) (listed (recordIn found) ++ (pairOf x y ∷ [])))
+  pub collected : {found₁ : List ℕ} → length found₁ ≡ longest → (y ≤ last → found₁ ≡ found) → (last < y → recordIn found₁ ≡ frontBytes (recordSize1 found) (recordSize2 found) (listed (recordIn found) ++ (pairOf x y ∷ [])))
       → Collects (f .n1) (f .n2) (whole f) (below f (x - 1)) (x - 1) found₁
   collected {found₁} l same more =
       ⊎-elim
@@ -100,7 +100,7 @@ module _ {f : Graph} {first more order label stack wait found : List ℕ} {x nod
     low = down (w .by-order) (x - 1) r (n .most) (omega (arith, w .some, w .begun)) s c (λ k i j. omega (arith, n .none k i j, is))
 
     -- no node is left that could raise the source's label
-    pub ended : r ≡ 0 → recordIn found₁ ≡ frontBytes (f .n1) (f .n2) (pathPairs (net f))
+    pub ended : r ≡ 0 → recordIn found₁ ≡ frontBytes (f .n1) (f .n2) (routePairs (graphNetwork f))
     ended e = all-collected f (subst (λ k. Collects (f .n1) (f .n2) (whole f) (below f k) k found₁) e (low .1)) (w .within)
 
     -- the next node enters
@@ -125,7 +125,7 @@ module _ {f : Graph} {first more order label stack wait found : List ℕ} {x nod
 
 -- ---- the first turn: only the target has a label
 module _ {f : Graph} {first more order found : List ℕ} (l : Laid f) (o : ByOrder f order) (ch : Chains (f .arcs) first more (arcCount (f .arcs)))
-    (entry-first : length (f .entry) ≤ length first) (places : arcCount (f .arcs) ≤ length more) (within : AllWithin (f .n1) (f .n2) (pathPairs (net f)))
+    (entry-first : length (f .entry) ≤ length first) (places : arcCount (f .arcs) ≤ length more) (within : AllWithin (f .n1) (f .n2) (routePairs (graphNetwork f)))
     (empty : found ≡ f .n1 ∷ f .n2 ∷ replicate (longest - 2) 0) (x : ℕ) (is-x : x ≡ start f) (some : 0 < x) where
   still : Still f (start f) (replicate maxNodes 0) (replicate (maxPosition + 1) 0)
   still = at-first l (omega arith) refl (omega arith) (λ v. getD-same maxNodes v 0) (λ c. getD-same (maxPosition + 1) c 0)
@@ -134,7 +134,7 @@ module _ {f : Graph} {first more order found : List ℕ} (l : Laid f) (o : ByOrd
   shut : Height f x 0
   shut b = (
     λ t.
-        let r = any-out (λ p. holdsAt p x b) (pathPairs (net f)) t in
+        let r = any-out (λ p. holdsAt p x b) (routePairs (graphNetwork f)) t in
         let h = holds-is (r .0) x b .0 (r .2) in
         let k : x ≤ f .n1 = omega (arith, within (r .0) (r .1)) in
         omega (arith, at-rest (subst (λ i. Still f i (replicate maxNodes 0) (replicate (maxPosition + 1) 0)) (sym is-x) still) k b .0 t, getD-same {A = ℕ} maxNodes (f .source) 0),
@@ -171,7 +171,7 @@ module _ {f : Graph} {first more order found : List ℕ} (l : Laid f) (o : ByOrd
             begins = c .begins;
             form = c .form;
             holding = λ u v. T-ext (whole f u v) (below f x u v) (
-              λ t. ⊎-elim (λ (le : x ≤ u). absurd (omega (arith, shut v .0 (holds-fewer (pathPairs (net f)) x u v v le (omega arith) t)))) (λ lt. below-is f x u v .1 (lt, t)) (sides x u),
+              λ t. ⊎-elim (λ (le : x ≤ u). absurd (omega (arith, shut v .0 (holds-fewer (routePairs (graphNetwork f)) x u v v le (omega arith) t)))) (λ lt. below-is f x u v .1 (lt, t)) (sides x u),
               λ t. below-is f x u v .0 t .1,
             ) ∙ c .holding u v;
             above = c .above;

@@ -7,13 +7,13 @@ use lib.Dec.{ltb}
 use lib.ListN.{length, getD}
 use Rattle.limits.specs.Limits.{arcCount}
 use Rattle.front.specs.Front.{holds, AllWithin}
-use Rattle.network.specs.Walk.{pathPairs}
+use Rattle.network.specs.Walk.{routePairs}
 use Rattle.relax.specs.declared.Step.{Step}
-use Rattle.relax.specs.State.{Graph, graphOf, net, Laid, Chains, start}
+use Rattle.relax.specs.State.{Graph, graphOf, graphNetwork, Laid, Chains, start}
 
 -- where the network holds, and what of it lies below x failures of class 1
 abbrev pub whole : Graph → ℕ → ℕ → Bool
-whole f a b = holds (pathPairs (net f)) a b
+whole f a b = holds (routePairs (graphNetwork f)) a b
 
 abbrev pub below : Graph → ℕ → ℕ → ℕ → Bool
 below f x a b = ltb a x && whole f a b
@@ -41,8 +41,8 @@ pub record Sweepable (arcs entry cap first more order : List ℕ) (begin : Step)
   pub heads : length entry ≤ length first
   -- a link for every arc
   pub links : arcCount arcs ≤ length more
-  -- no path's pair is out of range
-  pub within : AllWithin (begin .n1) (begin .n2) (pathPairs (net (graphOf arcs entry cap begin)))
+  -- no route's pair is out of range
+  pub within : AllWithin (begin .n1) (begin .n2) (routePairs (graphNetwork (graphOf arcs entry cap begin)))
   -- both ends are in at x, and at no larger one
   pub begins : begin .x .0 ≡ start (graphOf arcs entry cap begin)
   -- which is a position

@@ -11,10 +11,10 @@ ghost use mathlib.Core.Path.{_≡_};
 ghost use mathlib.Core.List.{[], _∷_, _++_};
 ghost use Prim.Native.Nat.{ℕ, _≤_, _<_};
 ghost use lib.ListN.{length, getD};
-ghost use Rattle.record.specs.Record.{size1, size2, listed, frontBytes};
+ghost use Rattle.record.specs.Record.{recordSize1, recordSize2, listed, frontBytes};
 ghost use Rattle.buffer.specs.Buffer.{longest, recordIn, Puttable};
-ghost use Rattle.network.specs.Walk.{pathPairs};
-ghost use Rattle.relax.specs.State.{graphOf, net};
+ghost use Rattle.network.specs.Walk.{routePairs};
+ghost use Rattle.relax.specs.State.{graphOf, graphNetwork};
 ghost use Rattle.sweep.specs.Sweep.{Sweepable, NextIn};
 
 // Puts the pair, where its p2 is above the last.
@@ -22,7 +22,8 @@ fn collect(found: &mut [u8; LONGEST], p: Pair, last: Pos2)
     requires { ⌜ (length (now found) ≡ longest) × (last .0 < p .p2 .0 → Puttable (now found) p) ⌝ }
     ensures long { λ _. ⌜ length (now (found .exit)) ≡ longest ⌝ }
     ensures same { λ _. ⌜ (p .p2 .0 ≤ last .0 → now (found .exit) ≡ now (found .entry)) ⌝ }
-    ensures more { λ _. ⌜ (last .0 < p .p2 .0 → recordIn (now (found .exit)) ≡ frontBytes (size1 (now (found .entry))) (size2 (now (found .entry))) (listed (recordIn (now (found .entry))) ++ p ∷ [])) ⌝ }
+    ensures more { λ _. ⌜ (last .0 < p .p2 .0 → recordIn (now (found .exit))
+        ≡ frontBytes (recordSize1 (now (found .entry))) (recordSize2 (now (found .entry))) (listed (recordIn (now (found .entry))) ++ p ∷ [])) ⌝ }
 {
     if last.at_least(p.p2) {
         return;
@@ -58,7 +59,8 @@ pub fn sweep(
     begin: Step,
 ) -> [u8; LONGEST]
     requires { ⌜ Sweepable (now arcs) (now entry) (now cap) (now first) (now more) (now order) begin ⌝ }
-    ensures { λ r. ⌜ recordIn r ≡ frontBytes (begin .n1) (begin .n2) (pathPairs (net (graphOf (now (arcs .entry)) (now (entry .entry)) (now (cap .entry)) begin))) ⌝ }
+    ensures { λ r. ⌜ recordIn r ≡ frontBytes (begin .n1) (begin .n2)
+        (routePairs (graphNetwork (graphOf (now (arcs .entry)) (now (entry .entry)) (now (cap .entry)) begin))) ⌝ }
 {
     let mut label = [0u8; MAX_NODES];
     let mut stack = [0u8; MAX_NODES];

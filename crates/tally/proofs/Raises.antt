@@ -14,7 +14,7 @@ use Rattle.front.specs.declared.Pair.{Pair}
 use Rattle.record.specs.Record.{listed, recordHolds}
 use Rattle.record.proofs.Records.{IsRecord, record-is}
 use Rattle.soundness.specs.Tally.{width}
-use Rattle.tally.specs.Cells.{table, bumped, peak, peakAt}
+use Rattle.tally.specs.Cells.{cellRows, bumped, peak, peakAt}
 use Rattle.tally.specs.Calls.{held, raisedCells, Raisable}
 use Rattle.tally.proofs.Peaks.{holds-peak, peak-next, peak-none, peak-most}
 use Rattle.tally.proofs.Tables.{table-length, table-snoc, row-raised}
@@ -36,7 +36,7 @@ pub record Raising (r old cells : List ℕ) (n1 n2 y at x : ℕ) : Type 0 where
   -- the height after x failures of class 1
   pub height : y ≡ peak (listed r) x
   -- the rows in front are raised, the others as they were
-  pub done : cells ≡ table (n1 + 1 - x) (width n2) (λ l1 l2. getD old (l1 * width n2 + l2) 0 + held r n1 n2 l1 l2) ++ drop at old
+  pub done : cells ≡ cellRows (n1 + 1 - x) (width n2) (λ l1 l2. getD old (l1 * width n2 + l2) 0 + held r n1 n2 l1 l2) ++ drop at old
   -- as many cells
   pub long : length cells ≡ length old
 
@@ -72,7 +72,7 @@ module _ {r old : List ℕ} {n1 n2 : ℕ} (ok : Raisable old r n1 n2) where
     cell-new = λ l1 l2. getD old (l1 * width n2 + l2) 0 + held r n1 n2 l1 l2
 
     abbrev front : List ℕ
-    front = table l1 (width n2) cell-new
+    front = cellRows l1 (width n2) cell-new
 
     front-long : length front ≡ at
     front-long = table-length l1 (width n2) cell-new ∙ sym (s .place)
@@ -117,21 +117,21 @@ module _ {r old : List ℕ} {n1 n2 : ℕ} (ok : Raisable old r n1 n2) where
           upto = omega (arith, s .upto);
           place = omega (arith, s .place, ap (λ k. k * width n2) (sym e));
           height = risen ∙ ap (peak (listed r)) q;
-          done = now ∙ ap (λ k. table k (width n2) cell-new ++ drop (at + width n2) old) e;
+          done = now ∙ ap (λ k. cellRows k (width n2) cell-new ++ drop (at + width n2) old) e;
           long = ap length now ∙ whole;
         }
       where
-        now : bumped cells (at + (width n2 - z)) z ≡ table (suc l1) (width n2) cell-new ++ drop (at + width n2) old
+        now : bumped cells (at + (width n2 - z)) z ≡ cellRows (suc l1) (width n2) cell-new ++ drop (at + width n2) old
         now =
             ap (λ c. bumped c (at + (width n2 - z)) z) (s .done)
             ∙ ap (λ a. bumped (front ++ drop a old) (a + (width n2 - z)) z) (sym front-long)
             ∙ row-raised old front (width n2) z (cell-new l1) fits (omega (arith, room, front-long)) low high
             ∙ ap₂ (λ t a. t ++ drop (a + width n2) old) (sym (table-snoc l1 (width n2) cell-new)) front-long
 
-        whole : length (table (suc l1) (width n2) cell-new ++ drop (at + width n2) old) ≡ length old
-        whole = length-append (table (suc l1) (width n2) cell-new) (drop (at + width n2) old) ∙ omega (arith, room, s .place, table-length (suc l1) (width n2) cell-new, length-drop (at + width n2) old)
+        whole : length (cellRows (suc l1) (width n2) cell-new ++ drop (at + width n2) old) ≡ length old
+        whole = length-append (cellRows (suc l1) (width n2) cell-new) (drop (at + width n2) old) ∙ omega (arith, room, s .place, table-length (suc l1) (width n2) cell-new, length-drop (at + width n2) old)
 
   pub raise-last : {cells : List ℕ} {y at x : ℕ} → Raising r old cells n1 n2 y at x → x ≡ 0 → cells ≡ raisedCells r n1 n2 old
   raise-last {cells} {y} {at} {x} s z =
       let e : n1 + 1 - x ≡ n1 + 1 = omega arith in
-      s .done ∙ ap₂ (λ k a. table k (width n2) (λ l1 l2. getD old (l1 * width n2 + l2) 0 + held r n1 n2 l1 l2) ++ drop a old) e (s .place ∙ ap (λ k. k * width n2) e)
+      s .done ∙ ap₂ (λ k a. cellRows k (width n2) (λ l1 l2. getD old (l1 * width n2 + l2) 0 + held r n1 n2 l1 l2) ++ drop a old) e (s .place ∙ ap (λ k. k * width n2) e)

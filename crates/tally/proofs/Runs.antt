@@ -16,7 +16,7 @@ use Rattle.answer.proofs.Outcomes.{outcome-tests, outcome-values}
 use Rattle.front.proofs.Fronts.{holds-fewer}
 use Rattle.record.specs.Record.{listed, recordHolds}
 use Rattle.chance.specs.Chance.{Grows}
-use Rattle.soundness.specs.Tally.{size1, size2, rounds, words, cell}
+use Rattle.soundness.specs.Tally.{tallySize1, tallySize2, rounds, words, cell}
 use Rattle.tally.specs.Cells.{tallyOf}
 use Rattle.tally.specs.Calls.{newTests, newAnswer, newOut, addTests, addAnswer, addOut, added, held}
 use Rattle.tally.specs.Adds.{succeeds, afterAdds, accepted, holding, Tallies}
@@ -101,7 +101,7 @@ add-tallies r {t₀} {t} {n1} {n2} {rs} s = go (addAnswer r t) refl
     more : rounds t + 1 ≡ length (rs ++ (r ∷ []))
     more = omega (arith, s .many, length-append rs (r ∷ []))
 
-    shape : (a b m : ℕ) → size1 t ≡ a → size2 t ≡ b → rounds t + 1 ≡ m → added r t ≡ tallyOf a b m (λ l1 l2. cell t l1 l2 + held r a b l1 l2)
+    shape : (a b m : ℕ) → tallySize1 t ≡ a → tallySize2 t ≡ b → rounds t + 1 ≡ m → added r t ≡ tallyOf a b m (λ l1 l2. cell t l1 l2 + held r a b l1 l2)
     shape a b m e f g = rw (e, f, g)
 
     -- not full

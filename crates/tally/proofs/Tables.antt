@@ -7,17 +7,17 @@ use native.Mathlib.Omega.{arith}
 use lib.ListN.{length, getD, set, take, drop, replicate, length-append, length-replicate, length-drop, replicate-append-replicate, take-append-drop}
 use lib.Seq.{length-take-le, drop-cons, set-at, getD-at, append-snoc, take-append-add, drop-append-add, getD-append-add, getD-drop, drop-drop}
 use Rattle.laws.specs.Lists.{listTo, list-length, list-at, list-same, list-split, list-snoc, take-list}
-use Rattle.tally.specs.Cells.{table, bumped}
+use Rattle.tally.specs.Cells.{cellRows, bumped}
 
-pub table-length : (n m : ℕ) (c : ℕ → ℕ → ℕ) → length (table n m c) ≡ n * m
+pub table-length : (n m : ℕ) (c : ℕ → ℕ → ℕ) → length (cellRows n m c) ≡ n * m
 table-length zero m c = sym (zero-mul m)
-table-length (suc n) m c = length-append (listTo m (c 0)) (table n m (λ i. c (suc i))) ∙ omega (arith, list-length m (c 0), table-length n m (λ i. c (suc i)), suc-mul n m)
+table-length (suc n) m c = length-append (listTo m (c 0)) (cellRows n m (λ i. c (suc i))) ∙ omega (arith, list-length m (c 0), table-length n m (λ i. c (suc i)), suc-mul n m)
 
 list-zero : (n : ℕ) → listTo {A = ℕ} n (λ i. 0) ≡ replicate n 0
 list-zero zero = refl
 list-zero (suc n) = ap (λ l. 0 ∷ l) (list-zero n)
 
-pub table-zero : (n m : ℕ) → table n m (λ i j. 0) ≡ replicate (n * m) 0
+pub table-zero : (n m : ℕ) → cellRows n m (λ i j. 0) ≡ replicate (n * m) 0
 table-zero zero m = rw (zero-mul m)
 table-zero (suc n) m =
     let e : m + n * m ≡ suc n * m = omega (arith, suc-mul n m) in
@@ -33,20 +33,20 @@ clear-next l i h =
 
 -- ---- what stands where
 -- reading a cell
-pub table-at : (n m : ℕ) (c : ℕ → ℕ → ℕ) (i j : ℕ) (l : List ℕ) → i < n → j < m → getD (table n m c ++ l) (i * m + j) 0 ≡ c i j
+pub table-at : (n m : ℕ) (c : ℕ → ℕ → ℕ) (i j : ℕ) (l : List ℕ) → i < n → j < m → getD (cellRows n m c ++ l) (i * m + j) 0 ≡ c i j
 table-at zero m c i j l h k = absurd (omega arith)
 table-at (suc n) m c zero j l h k =
     let e : 0 * m + j ≡ j = omega (arith, zero-mul m) in
-    ap (λ x. getD x (0 * m + j) 0) (append-assoc (listTo m (c 0)) (table n m (λ x. c (suc x))) l) ∙ ap (λ x. getD (listTo m (c 0) ++ (table n m (λ x. c (suc x)) ++ l)) x 0) e ∙ list-at m (c 0) j (table n m (λ x. c (suc x)) ++ l) 0 k
+    ap (λ x. getD x (0 * m + j) 0) (append-assoc (listTo m (c 0)) (cellRows n m (λ x. c (suc x))) l) ∙ ap (λ x. getD (listTo m (c 0) ++ (cellRows n m (λ x. c (suc x)) ++ l)) x 0) e ∙ list-at m (c 0) j (cellRows n m (λ x. c (suc x)) ++ l) 0 k
 table-at (suc n) m c (suc i) j l h k =
     let e : suc i * m + j ≡ length (listTo m (c 0)) + (i * m + j) = omega (arith, suc-mul i m, list-length m (c 0)) in
-    ap (λ x. getD x (suc i * m + j) 0) (append-assoc (listTo m (c 0)) (table n m (λ x. c (suc x))) l) ∙ ap (λ x. getD (listTo m (c 0) ++ (table n m (λ x. c (suc x)) ++ l)) x 0) e
-    ∙ getD-append-add (listTo m (c 0)) (table n m (λ x. c (suc x)) ++ l) (i * m + j) 0 ∙ table-at n m (λ x. c (suc x)) i j l (omega arith) k
+    ap (λ x. getD x (suc i * m + j) 0) (append-assoc (listTo m (c 0)) (cellRows n m (λ x. c (suc x))) l) ∙ ap (λ x. getD (listTo m (c 0) ++ (cellRows n m (λ x. c (suc x)) ++ l)) x 0) e
+    ∙ getD-append-add (listTo m (c 0)) (cellRows n m (λ x. c (suc x)) ++ l) (i * m + j) 0 ∙ table-at n m (λ x. c (suc x)) i j l (omega arith) k
 
 -- one row more, at the end
-pub table-snoc : (n m : ℕ) (c : ℕ → ℕ → ℕ) → table (suc n) m c ≡ table n m c ++ listTo m (c n)
+pub table-snoc : (n m : ℕ) (c : ℕ → ℕ → ℕ) → cellRows (suc n) m c ≡ cellRows n m c ++ listTo m (c n)
 table-snoc zero m c = append-nil (listTo m (c 0))
-table-snoc (suc n) m c = ap (λ r. listTo m (c 0) ++ r) (table-snoc n m (λ i. c (suc i))) ∙ sym (append-assoc (listTo m (c 0)) (table n m (λ i. c (suc i))) (listTo m (c (suc n))))
+table-snoc (suc n) m c = ap (λ r. listTo m (c 0) ++ r) (table-snoc n m (λ i. c (suc i))) ∙ sym (append-assoc (listTo m (c 0)) (cellRows n m (λ i. c (suc i))) (listTo m (c (suc n))))
 
 -- the last y cells of a row of w raised by 1, where `done` stands in front of the row
 module _ (old done : List ℕ) (w y : ℕ) (f : ℕ → ℕ) (fits : y ≤ w) (room : length done + w ≤ length old)

@@ -8,9 +8,9 @@ use lib.ListN.{length, getD, drop}
 use Rattle.limits.specs.Limits.{maxRounds, maxClass}
 use Rattle.laws.specs.Tests.{flag}
 use Rattle.answer.specs.Outcome.{Outcome, outcome, filled}
-use Rattle.record.specs.Record.{isRecord, recordHolds, size1 as recordSize1, size2 as recordSize2}
-use Rattle.soundness.specs.Tally.{size1, size2, rounds, width, words, cell, noRoom, isSound}
-use Rattle.tally.specs.Cells.{table, tallyOf}
+use Rattle.record.specs.Record.{isRecord, recordHolds, recordSize1, recordSize2}
+use Rattle.soundness.specs.Tally.{tallySize1, tallySize2, rounds, width, words, cell, noRoom, isSound}
+use Rattle.tally.specs.Cells.{cellRows, tallyOf}
 
 -- ---- NEW (6, 21)
 abbrev pub newTests : ℕ → ℕ → ℕ → List (ℕ × Bool)
@@ -24,11 +24,11 @@ abbrev pub newOut : ℕ → ℕ → List ℕ → List ℕ
 newOut n1 n2 t = filled (newAnswer n1 n2 (length t)) (tallyOf n1 n2 0 (λ l1 l2. 0)) t
 
 -- ---- ADD (12, 21, 22, 23, 24)
-abbrev pub sameSizes : List ℕ → List ℕ → Bool
-sameSizes r t = eqb (recordSize1 r) (size1 t) && eqb (recordSize2 r) (size2 t)
+abbrev pub fitsTally : List ℕ → List ℕ → Bool
+fitsTally r t = eqb (recordSize1 r) (tallySize1 t) && eqb (recordSize2 r) (tallySize2 t)
 
 abbrev pub addTests : List ℕ → List ℕ → List (ℕ × Bool)
-addTests r t = (12, not (isRecord r)) ∷ (21, noRoom t) ∷ (22, not (isSound t)) ∷ (23, not (sameSizes r t)) ∷ (24, eqb (rounds t) maxRounds) ∷ []
+addTests r t = (12, not (isRecord r)) ∷ (21, noRoom t) ∷ (22, not (isSound t)) ∷ (23, not (fitsTally r t)) ∷ (24, eqb (rounds t) maxRounds) ∷ []
 
 abbrev pub addAnswer : List ℕ → List ℕ → Outcome
 addAnswer r t = outcome (addTests r t) (0 ∷ [])
@@ -39,7 +39,7 @@ held r n1 n2 l1 l2 = flag (recordHolds r (n1 - l1) (n2 - l2))
 
 -- the cells alone, each raised by 1 where the record holds
 abbrev pub raisedCells : List ℕ → ℕ → ℕ → List ℕ → List ℕ
-raisedCells r n1 n2 cells = table (n1 + 1) (width n2) (λ l1 l2. getD cells (l1 * width n2 + l2) 0 + held r n1 n2 l1 l2) ++ drop ((n1 + 1) * width n2) cells
+raisedCells r n1 n2 cells = cellRows (n1 + 1) (width n2) (λ l1 l2. getD cells (l1 * width n2 + l2) 0 + held r n1 n2 l1 l2) ++ drop ((n1 + 1) * width n2) cells
 
 -- a record whose cells may be raised
 pub record Raisable (cells r : List ℕ) (n1 n2 : ℕ) : Type 0 where
@@ -55,7 +55,7 @@ pub record Raisable (cells r : List ℕ) (n1 n2 : ℕ) : Type 0 where
 
 -- M and each cell where the record holds raised by 1
 abbrev pub added : List ℕ → List ℕ → List ℕ
-added r t = tallyOf (size1 t) (size2 t) (rounds t + 1) (λ l1 l2. cell t l1 l2 + held r (size1 t) (size2 t) l1 l2)
+added r t = tallyOf (tallySize1 t) (tallySize2 t) (rounds t + 1) (λ l1 l2. cell t l1 l2 + held r (tallySize1 t) (tallySize2 t) l1 l2)
 
 abbrev pub addOut : List ℕ → List ℕ → List ℕ
 addOut r t = filled (addAnswer r t) (added r t) t

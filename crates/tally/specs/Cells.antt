@@ -10,16 +10,16 @@ use Rattle.soundness.specs.Tally.{width}
 
 -- ---- a tally from its cells
 -- n rows of m
-abbrev pub table : ℕ → ℕ → (ℕ → ℕ → ℕ) → List ℕ
-table zero m c = []
-table (suc n) m c = listTo m (c 0) ++ table n m (λ i. c (suc i))
+abbrev pub cellRows : ℕ → ℕ → (ℕ → ℕ → ℕ) → List ℕ
+cellRows zero m c = []
+cellRows (suc n) m c = listTo m (c 0) ++ cellRows n m (λ i. c (suc i))
 
 -- the words in front of the cells c
 abbrev pub heading : ℕ → ℕ → ℕ → (ℕ → ℕ → ℕ) → List ℕ
 heading n1 n2 m c = n1 ∷ n2 ∷ m ∷ []
 
 abbrev pub tallyOf : ℕ → ℕ → ℕ → (ℕ → ℕ → ℕ) → List ℕ
-tallyOf n1 n2 m c = heading n1 n2 m c ++ table (n1 + 1) (width n2) c
+tallyOf n1 n2 m c = heading n1 n2 m c ++ cellRows (n1 + 1) (width n2) c
 
 -- ---- heights of a list of pairs, as the code has them
 -- the largest p2 of the pairs with p1 above a, and of those with p1 = x; 0 where there is none

@@ -17,9 +17,9 @@ ghost use lib.ListN.{length, getD, set, drop, replicate};
 ghost use Rattle.limits.specs.Limits.{maxRounds, maxPosition};
 ghost use Rattle.answer.specs.Outcome.{success, done};
 ghost use Rattle.record.specs.Record.{listed, isRecord};
-ghost use Rattle.soundness.specs.Tally.{head, roundsAt, rounds, stateAnswer};
+ghost use Rattle.soundness.specs.Tally.{headWords, roundsPlace, rounds, stateAnswer};
 ghost use Rattle.tally.specs.Cells.{bumped, peakAt};
-ghost use Rattle.tally.specs.Calls.{newAnswer, newOut, Raisable, raisedCells, sameSizes, addAnswer, addOut};
+ghost use Rattle.tally.specs.Calls.{newAnswer, newOut, Raisable, raisedCells, fitsTally, addAnswer, addOut};
 
 // ---- new
 // Zeros in the first n places.
@@ -112,8 +112,8 @@ fn raise(cells: &mut [u32], record: &[u8], n1: u8, n2: u8)
 
 // Whether the record has the tally's class sizes.
 fn same_sizes(record: &[u8], tally: &[u32]) -> bool
-    requires { ⌜ head ≤ length (now tally) ⌝ }
-    ensures { λ r. ⌜ r ≡ sameSizes (now («record» .entry)) (now (tally .entry)) ⌝ }
+    requires { ⌜ headWords ≤ length (now tally) ⌝ }
+    ensures { λ r. ⌜ r ≡ fitsTally (now («record» .entry)) (now (tally .entry)) ⌝ }
 {
     let head = record::read_head(record);
     let same1 = slices::wide(head.n1) == wide_word(tally[0]);
@@ -123,8 +123,8 @@ fn same_sizes(record: &[u8], tally: &[u32]) -> bool
 
 // One round more.
 fn count_round(tally: &mut [u32])
-    requires { ⌜ (head ≤ length (now tally)) × (rounds (now tally) ≤ maxRounds) ⌝ }
-    ensures { λ _. ⌜ now (tally .exit) ≡ set (now (tally .entry)) roundsAt (rounds (now (tally .entry)) + 1) ⌝ }
+    requires { ⌜ (headWords ≤ length (now tally)) × (rounds (now tally) ≤ maxRounds) ⌝ }
+    ensures { λ _. ⌜ now (tally .exit) ≡ set (now (tally .entry)) roundsPlace (rounds (now (tally .entry)) + 1) ⌝ }
 {
     tally[ROUNDS] += 1;
 }

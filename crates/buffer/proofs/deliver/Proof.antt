@@ -6,7 +6,7 @@ use native.Mathlib.Omega.{arith}
 use borrow.Author.Needs.{needs}
 use lib.ListN.{length, take}
 use lib.Seq.{take-all}
-use Rattle.record.specs.Record.{count}
+use Rattle.record.specs.Record.{pairCount}
 use Rattle.answer.specs.Outcome.{fillAnswer, fillOut}
 use Rattle.buffer.specs.Buffer.{recordIn}
 use Rattle.buffer.proofs.deliver.Statement.{statement}
@@ -43,7 +43,7 @@ returns : tie.Need-returns
 returns c =
     let b = c .before .before .before .before .before .before .before .before .before .args .t1 in
     let out = c .before .before .before .before .before .before .before .before .before .args .out .now in
-    let n : 3 + 2 * c .before .before .before .before .before .before .before .wide .result - 0 ≡ 3 + 2 * count b = omega arith in
+    let n : 3 + 2 * c .before .before .before .before .before .before .before .wide .result - 0 ≡ 3 + 2 * pairCount b = omega arith in
     let e = ap (λ k. take k b) n in
     let d = c .before .before .deliver .ensures in
     (d .0 ∙ ap (λ x. fillAnswer [] x (length out)) e, d .1 ∙ ap (λ x. fillOut [] x out) e)
@@ -61,7 +61,7 @@ returns-2 : tie.Need-returns-2
 returns-2 c =
     let b = c .before .before .before .before .before .before .before .before .args .t1 in
     let out = c .before .before .before .before .before .before .before .before .args .out .now in
-    let e : b ≡ recordIn b = sym (take-all (3 + 2 * count b) b (omega arith)) in
+    let e : b ≡ recordIn b = sym (take-all (3 + 2 * pairCount b) b (omega arith)) in
     let d = c .before .before .deliver2 .ensures in
     (d .0 ∙ ap (λ x. fillAnswer [] x (length out)) e, d .1 ∙ ap (λ x. fillOut [] x out) e)
 

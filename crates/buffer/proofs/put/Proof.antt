@@ -5,7 +5,7 @@ use native.Mathlib.Omega.{arith}
 use borrow.Author.Needs.{needs}
 use lib.ListN.{length}
 use Rattle.front.specs.Pair.{covers, dominates}
-use Rattle.record.specs.Record.{count, pairAt}
+use Rattle.record.specs.Record.{pairCount, pairAt}
 use Rattle.buffer.specs.Buffer.{recordIn}
 use Rattle.buffer.proofs.Builds.{stored-long, few, room, wrote-first, wrote-nothing, wrote-over, wrote-behind}
 use Rattle.buffer.proofs.put.Statement.{statement}
@@ -14,12 +14,12 @@ use Rattle.buffer.proofs.put.Tie as tie
 -- the two tests are of the pair that the buffer lists last
 covered : (c : tie.After-covers)
     → let a = c .before .before .before .before .before .before .args in
-    covers (pairAt (a .buffer .now) (count (a .buffer .now) - 1)) (a .p) ≡ c .covers .result
+    covers (pairAt (a .buffer .now) (pairCount (a .buffer .now) - 1)) (a .p) ≡ c .covers .result
 covered c = ap (λ x. covers x (c .before .before .before .before .before .before .args .p)) (sym (c .before .pair-at .ensures)) ∙ sym (c .covers .ensures)
 
 dominated : (c : tie.After-dominates)
     → let a = c .before .before .before .before .before .before .before .before .args in
-    dominates (a .p) (pairAt (a .buffer .now) (count (a .buffer .now) - 1)) ≡ c .dominates .result
+    dominates (a .p) (pairAt (a .buffer .now) (pairCount (a .buffer .now) - 1)) ≡ c .dominates .result
 dominated c = ap (dominates (c .before .before .before .before .before .before .before .before .args .p)) (sym (c .before .before .before .pair-at .ensures)) ∙ sym (c .dominates .ensures)
 
 element-copy-out-k : tie.Need-element-copy-out-k
@@ -60,7 +60,7 @@ returns-3 : tie.Need-returns-3
 returns-3 c =
     let s = c .before .before .before .before .before .before .before .before .before .before .before in
     let b = s .args .buffer .now in (
-      ap length (c .place2 .ensures) ∙ stored-long b (count b - 1) (s .args .p) ∙ s .pre .long,
+      ap length (c .place2 .ensures) ∙ stored-long b (pairCount b - 1) (s .args .p) ∙ s .pre .long,
       ap recordIn (c .place2 .ensures) ∙ wrote-over (s .pre) (omega arith) (dominated (c .before .before .before) ∙ c .before .before .if3 .taken),
     )
 
@@ -71,7 +71,7 @@ returns-4 : tie.Need-returns-4
 returns-4 c =
     let s = c .before .before .before .before .before .before .before .before .before .before .before in
     let b = s .args .buffer .now in (
-      ap length (c .place3 .ensures) ∙ stored-long b (count b) (s .args .p) ∙ s .pre .long,
+      ap length (c .place3 .ensures) ∙ stored-long b (pairCount b) (s .args .p) ∙ s .pre .long,
       ap recordIn (c .place3 .ensures) ∙ wrote-behind (s .pre) (omega arith) (covered (c .before .before .before .before .before) ∙ c .before .before .before .before .if2 .left) (dominated (c .before .before .before) ∙ c .before .before .if3 .left),
     )
 

@@ -5,7 +5,7 @@ use native.Mathlib.Omega.{arith}
 use borrow.Author.Tests.{leb-true, leb-false}
 use borrow.Author.Needs.{needs}
 use lib.ListN.{length}
-use Rattle.record.specs.Record.{size1, size2, listed}
+use Rattle.record.specs.Record.{recordSize1, recordSize2, listed}
 use Rattle.record.proofs.Bytes.{pair-at}
 use Rattle.compose.proofs.Merges.{either, Merging, merging-none, left-puttable, right-puttable, parallel-left, parallel-right, parallel-done, pair-is, count-is}
 use Rattle.compose.proofs.merge_parallel.Statement.{statement}
@@ -13,7 +13,7 @@ use Rattle.compose.proofs.merge_parallel.Tie as tie
 
 abbrev Inv-loop : tie.InvT-loop
 Inv-loop left right pairs joined₀ i₀ j₀ joined i j =
-    Merging either max (size1 left) (size2 left) (listed left) (listed right) i j joined × (pairs ≡ length (listed left) + length (listed right)) × (pairs ≤ 130)
+    Merging either max (recordSize1 left) (recordSize2 left) (listed left) (listed right) i j joined × (pairs ≡ length (listed left) + length (listed right)) × (pairs ≤ 130)
 
 abbrev μ-loop : tie.MeasureT-loop
 μ-loop left right pairs joined₀ i₀ j₀ joined i j = pairs - (i + j)

@@ -8,7 +8,7 @@ use borrow.Author.Tests.{leb-true, leb-false}
 use borrow.Author.Needs.{needs}
 use lib.ListN.{length}
 use Rattle.limits.specs.Limits.{maxClass}
-use Rattle.record.specs.Record.{size1, size2, listed}
+use Rattle.record.specs.Record.{recordSize1, recordSize2, listed}
 use Rattle.record.proofs.Bytes.{pair-at}
 use Rattle.compose.proofs.Merges.{both, Merging, merging-none, series-puttable, series-left, series-right, series-done, pair-is, count-is}
 use Rattle.compose.proofs.merge_series.Statement.{statement}
@@ -16,7 +16,7 @@ use Rattle.compose.proofs.merge_series.Tie as tie
 
 abbrev Inv-loop : tie.InvT-loop
 Inv-loop left right k m joined₀ i₀ j₀ joined i j =
-    Merging both min (size1 left) (size2 left) (listed left) (listed right) i j joined × (k ≡ length (listed left)) × (m ≡ length (listed right)) × (k ≤ maxClass + 1) × (m ≤ maxClass + 1)
+    Merging both min (recordSize1 left) (recordSize2 left) (listed left) (listed right) i j joined × (k ≡ length (listed left)) × (m ≡ length (listed right)) × (k ≤ maxClass + 1) × (m ≤ maxClass + 1)
 
 abbrev μ-loop : tie.MeasureT-loop
 μ-loop left right k m joined₀ i₀ j₀ joined i j = (k - i) + (m - j)

@@ -8,17 +8,17 @@ use borrow.Author.Needs.{needs}
 use Rattle.limits.specs.Limits.{maxClass}
 use Rattle.laws.specs.Parts.{tail-part}
 use Rattle.chance.specs.Chance.{weights, rateR}
-use Rattle.soundness.specs.Tally.{head, size1, size2, rounds}
+use Rattle.soundness.specs.Tally.{headWords, tallySize1, tallySize2, rounds}
 use Rattle.soundness.proofs.States.{state-sound, state-long, state-room}
 use Rattle.reliability.proofs.Rates.{filled-long, row-fits, rows-fit, rows-sum}
 use Rattle.reliability.proofs.rate_of.Statement.{statement}
 use Rattle.reliability.proofs.rate_of.Tie as tie
 
 -- the slices of weights
-u-filled : (c : tie.After-fill) → let a = c .before .before .before .before .before .args in c .fill .last .1 .1 .0 ≡ weights (a .p1) (size1 (a .tally .now)) ++ drop (size1 (a .tally .now) + 1) (replicate (maxClass + 1) 0)
+u-filled : (c : tie.After-fill) → let a = c .before .before .before .before .before .args in c .fill .last .1 .1 .0 ≡ weights (a .p1) (tallySize1 (a .tally .now)) ++ drop (tallySize1 (a .tally .now) + 1) (replicate (maxClass + 1) 0)
 u-filled c = c .fill .ensures
 
-v-filled : (c : tie.After-fill2) → let a = c .before .before .before .before .before .before .before .before .args in c .fill2 .last .1 .1 .0 ≡ weights (a .p2) (size2 (a .tally .now)) ++ drop (size2 (a .tally .now) + 1) (replicate (maxClass + 1) 0)
+v-filled : (c : tie.After-fill2) → let a = c .before .before .before .before .before .before .before .before .args in c .fill2 .last .1 .1 .0 ≡ weights (a .p2) (tallySize2 (a .tally .now)) ++ drop (tallySize2 (a .tally .now) + 1) (replicate (maxClass + 1) 0)
 v-filled c = c .fill2 .ensures
 
 shared-slice-read-n1 : tie.Need-shared-slice-read-n1
@@ -65,16 +65,16 @@ total-requires c κs =
     let s = c .before .before .before .before .before .before .before .before .before .before .before .before in
     let t = s .args .tally .now in
     let g = state-sound t (s .pre .fine) in
-    rw (tail-part t head) (
+    rw (tail-part t headWords) (
       g .small1,
       g .small2,
-      omega (arith, state-room t (s .pre .fine), length-drop head t),
-      filled-long (s .args .p1) (size1 t) (drop (size1 t + 1) (replicate (maxClass + 1) 0)) (c .before .before .before .before .before .before .before .fill .last .1 .1 .0) (u-filled (c .before .before .before .before .before .before .before)),
-      filled-long (s .args .p2) (size2 t) (drop (size2 t + 1) (replicate (maxClass + 1) 0)) (c .before .before .before .before .fill2 .last .1 .1 .0) (v-filled (c .before .before .before .before)),
+      omega (arith, state-room t (s .pre .fine), length-drop headWords t),
+      filled-long (s .args .p1) (tallySize1 t) (drop (tallySize1 t + 1) (replicate (maxClass + 1) 0)) (c .before .before .before .before .before .before .before .fill .last .1 .1 .0) (u-filled (c .before .before .before .before .before .before .before)),
+      filled-long (s .args .p2) (tallySize2 t) (drop (tallySize2 t + 1) (replicate (maxClass + 1) 0)) (c .before .before .before .before .fill2 .last .1 .1 .0) (v-filled (c .before .before .before .before)),
       row-fits (s .args .tally .now) (s .pre .fine) (s .args .p1) (s .args .p2) (s .pre .ok1) (s .pre .ok2)
-          (drop (size1 t + 1) (replicate (maxClass + 1) 0)) (c .before .before .before .before .before .before .before .fill .last .1 .1 .0) (u-filled (c .before .before .before .before .before .before .before)) (drop (size2 t + 1) (replicate (maxClass + 1) 0)) (c .before .before .before .before .fill2 .last .1 .1 .0) (v-filled (c .before .before .before .before)),
+          (drop (tallySize1 t + 1) (replicate (maxClass + 1) 0)) (c .before .before .before .before .before .before .before .fill .last .1 .1 .0) (u-filled (c .before .before .before .before .before .before .before)) (drop (tallySize2 t + 1) (replicate (maxClass + 1) 0)) (c .before .before .before .before .fill2 .last .1 .1 .0) (v-filled (c .before .before .before .before)),
       rows-fit (s .args .tally .now) (s .pre .fine) (s .args .p1) (s .args .p2) (s .pre .ok1) (s .pre .ok2)
-          (drop (size1 t + 1) (replicate (maxClass + 1) 0)) (c .before .before .before .before .before .before .before .fill .last .1 .1 .0) (u-filled (c .before .before .before .before .before .before .before)) (drop (size2 t + 1) (replicate (maxClass + 1) 0)) (c .before .before .before .before .fill2 .last .1 .1 .0) (v-filled (c .before .before .before .before)),
+          (drop (tallySize1 t + 1) (replicate (maxClass + 1) 0)) (c .before .before .before .before .before .before .before .fill .last .1 .1 .0) (u-filled (c .before .before .before .before .before .before .before)) (drop (tallySize2 t + 1) (replicate (maxClass + 1) 0)) (c .before .before .before .before .fill2 .last .1 .1 .0) (v-filled (c .before .before .before .before)),
     )
 
 shared-slice-read-m : tie.Need-shared-slice-read-m
@@ -93,8 +93,8 @@ returns : tie.Need-returns
 returns c =
     let s = c .before .before .before .before .before .before .before .before .before .before .before .before .before .before in
     let t = s .args .tally .now in
-    let e = (rw (tail-part t head) at (c .before .total .ensures)) ∙ rows-sum (s .args .tally .now) (s .pre .fine) (s .args .p1) (s .args .p2) (s .pre .ok1) (s .pre .ok2)
-    (drop (size1 t + 1) (replicate (maxClass + 1) 0)) (c .before .before .before .before .before .before .before .before .before .fill .last .1 .1 .0) (u-filled (c .before .before .before .before .before .before .before .before .before)) (drop (size2 t + 1) (replicate (maxClass + 1) 0)) (c .before .before .before .before .before .before .fill2 .last .1 .1 .0) (v-filled (c .before .before .before .before .before .before)) in
+    let e = (rw (tail-part t headWords) at (c .before .total .ensures)) ∙ rows-sum (s .args .tally .now) (s .pre .fine) (s .args .p1) (s .args .p2) (s .pre .ok1) (s .pre .ok2)
+    (drop (tallySize1 t + 1) (replicate (maxClass + 1) 0)) (c .before .before .before .before .before .before .before .before .before .fill .last .1 .1 .0) (u-filled (c .before .before .before .before .before .before .before .before .before)) (drop (tallySize2 t + 1) (replicate (maxClass + 1) 0)) (c .before .before .before .before .before .before .fill2 .last .1 .1 .0) (v-filled (c .before .before .before .before .before .before)) in
     (e, refl, ap (λ x. rateR x (rounds t)) e)
 
 pub rate-of-spec : {M : Type 1} → statement M

@@ -9,25 +9,25 @@ use borrow.Author.Tests.{not-true, not-false}
 use borrow.Author.Needs.{needs}
 use Rattle.limits.specs.Limits.{maxClass}
 use Rattle.laws.specs.Parts.{tail-part}
-use Rattle.soundness.specs.Tally.{head, size1, size2, words}
+use Rattle.soundness.specs.Tally.{headWords, tallySize1, tallySize2, words}
 use Rattle.soundness.proofs.States.{cells-most, too-short, too-large, sizes, no-cells, too-many, unfair, good}
 use Rattle.soundness.proofs.check.Statement.{statement}
 use Rattle.soundness.proofs.check.Tie as tie
 
 -- both sizes as the tally has them
-both-are : (c : tie.After-wide-word2) → let t = c .before .before .before .before .before .before .args .tally .now in (c .before .before .wide-word .result ≡ size1 t) × (c .wide-word2 .result ≡ size2 t)
+both-are : (c : tie.After-wide-word2) → let t = c .before .before .before .before .before .before .args .tally .now in (c .before .before .wide-word .result ≡ tallySize1 t) × (c .wide-word2 .result ≡ tallySize2 t)
 both-are c = (c .before .before .wide-word .ensures .0, c .wide-word2 .ensures .0)
 
-small : (c : tie.Else2) → let t = c .before .before .before .before .before .before .before .args .tally .now in ltb maxClass (size1 t) || ltb maxClass (size2 t) ≡ false
+small : (c : tie.Else2) → let t = c .before .before .before .before .before .before .before .args .tally .now in ltb maxClass (tallySize1 t) || ltb maxClass (tallySize2 t) ≡ false
 small c = let e = both-are (c .before) in rw (e .0, e .1) at (c .if2 .left)
 
-few : (c : tie.Else2) → let t = c .before .before .before .before .before .before .before .args .tally .now in (size1 t ≤ maxClass) × (size2 t ≤ maxClass)
+few : (c : tie.Else2) → let t = c .before .before .before .before .before .before .before .args .tally .now in (tallySize1 t ≤ maxClass) × (tallySize2 t ≤ maxClass)
 few c = sizes (c .before .before .before .before .before .before .before .args .tally .now) (c .before .before .before .before .before .if1 .left) (small c)
 
 product : (c : tie.Else2) → (c .before .before .before .wide-word .result + 1) * (c .before .wide-word2 .result + 1) ≤ (maxClass + 1) * (maxClass + 1)
 product c = let e = both-are (c .before) in let f = few c in cells-most (c .before .before .before .wide-word .result) (c .before .wide-word2 .result) (omega (arith, e .0, f .0)) (omega (arith, e .1, f .1))
 
-room : (c : tie.Else3) → let t = c .before .before .before .before .before .before .before .before .args .tally .now in words (size1 t) (size2 t) ≤ length t
+room : (c : tie.Else3) → let t = c .before .before .before .before .before .before .before .before .args .tally .now in words (tallySize1 t) (tallySize2 t) ≤ length t
 room c = let e = both-are (c .before .before) in rw (e .0, e .1) at (c .if3 .left)
 
 returns : tie.Need-returns
@@ -86,20 +86,20 @@ is-fair-requires c κs =
     let t = c .before .before .before .before .before .before .before .before .before .before .before .before .args .tally .now in
     let e = both-are (c .before .before .before .before .before .before) in
     let f = few (c .before .before .before .before .before) in
-    rw (tail-part t head, e .0, e .1) (f .0, f .1, omega (arith, room (c .before .before .before .before), length-drop head t))
+    rw (tail-part t headWords, e .0, e .1) (f .0, f .1, omega (arith, room (c .before .before .before .before), length-drop headWords t))
 
 returns-5 : tie.Need-returns-5
 returns-5 c =
     let t = c .before .before .before .before .before .before .before .before .before .before .before .before .before .before .args .tally .now in
     let e = both-are (c .before .before .before .before .before .before .before .before) in
-    let k = rw (tail-part t head, e .0, e .1) at (c .before .is-fair .ensures) in
+    let k = rw (tail-part t headWords, e .0, e .1) at (c .before .is-fair .ensures) in
     sym (unfair t (c .before .before .before .before .before .before .before .before .before .before .before .before .if1 .left) (small (c .before .before .before .before .before .before .before)) (room (c .before .before .before .before .before .before)) (c .before .before .before .before .if4 .left) (sym k ∙ not-true _ (c .if5 .taken)))
 
 returns-6 : tie.Need-returns-6
 returns-6 c =
     let t = c .before .before .before .before .before .before .before .before .before .before .before .before .before .before .args .tally .now in
     let e = both-are (c .before .before .before .before .before .before .before .before) in
-    let k = rw (tail-part t head, e .0, e .1) at (c .before .is-fair .ensures) in
+    let k = rw (tail-part t headWords, e .0, e .1) at (c .before .is-fair .ensures) in
     sym (good t (c .before .before .before .before .before .before .before .before .before .before .before .before .if1 .left) (small (c .before .before .before .before .before .before .before)) (room (c .before .before .before .before .before .before)) (c .before .before .before .before .if4 .left) (sym k ∙ not-false _ (c .if5 .left)))
 
 pub check-spec : {M : Type 1} → statement M

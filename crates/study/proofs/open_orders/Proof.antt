@@ -9,7 +9,7 @@ use lib.ListN.{length, getD}
 use Rattle.answer.specs.Outcome.{success, outcome, opened, headerValues}
 use Rattle.answer.proofs.Outcomes.{outcome-refused}
 use Rattle.orders.specs.Order.{count, isRound}
-use Rattle.sections.specs.File.{nodesOf, roundOf}
+use Rattle.sections.specs.File.{nodesOf, roundIn}
 use Rattle.study.specs.Calls.{badOrders, openValues, checkTests}
 use Rattle.study.proofs.Lookups.{open-values, study-within, round-opens, size-small, round-small, round-part, round-length, round-eleven}
 use Rattle.study.proofs.open_orders.Statement.{statement}
@@ -20,7 +20,7 @@ opens : (c : tie.After-h) → outcome (checkTests (c .before .before .before .be
 opens c = sym (c .before .before .open-round .ensures) ∙ ap opened (c .h .given .1)
 
 -- the test of its orders
-tested : (c : tie.After-is-round) → isRound (nodesOf (c .before .before .before .before .before .before .before .before .before .args .file .now)) (roundOf (c .before .before .before .before .before .before .before .before .before .args .file .now) (c .before .before .before .before .before .before .before .before .before .args .round)) ≡ c .is-round .result
+tested : (c : tie.After-is-round) → isRound (nodesOf (c .before .before .before .before .before .before .before .before .before .args .file .now)) (roundIn (c .before .before .before .before .before .before .before .before .before .args .file .now) (c .before .before .before .before .before .before .before .before .before .args .round)) ≡ c .is-round .result
 tested c = sym (c .is-round .ensures ∙ ap₂ isRound (c .before .node-bytes .ensures) (c .before .before .round-at .ensures .0 ∙ round-part (c .before .before .before .before .before .before .before .before .before .args .file .now) _ (c .before .before .before .before .before .before .before .before .before .args .round) (opens (c .before .before .before .before .before))))
 
 open-round-requires : tie.Need-open-round-requires

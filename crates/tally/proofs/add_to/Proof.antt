@@ -8,24 +8,24 @@ use lib.ListN.{length, take, drop, length-set}
 use borrow.Author.Tests.{not-true, not-false}
 use borrow.Author.Needs.{needs}
 use Rattle.laws.specs.Parts.{tail-part}
-use Rattle.record.specs.Record.{size1 as recordSize1, size2 as recordSize2}
-use Rattle.soundness.specs.Tally.{head, rounds}
-use Rattle.tally.specs.Calls.{sameSizes, raisedCells}
+use Rattle.record.specs.Record.{recordSize1, recordSize2}
+use Rattle.soundness.specs.Tally.{headWords, rounds}
+use Rattle.tally.specs.Calls.{fitsTally, raisedCells}
 use Rattle.soundness.proofs.States.{state-sound, state-long}
 use Rattle.tally.proofs.Adds.{put-tail, add-sizes, add-full, raisable, add-done}
 use Rattle.tally.proofs.add_to.Statement.{statement}
 use Rattle.tally.proofs.add_to.Tie as tie
 
 -- the slice has its head
-has-head : (s : tie.Start) → head ≤ length (s .args .tally .now)
+has-head : (s : tie.Start) → headWords ≤ length (s .args .tally .now)
 has-head s = state-long (s .args .tally .now) (s .pre .1)
 
 -- the sizes are the same
-same : (c : tie.Else1) → let a = c .before .before .before .before .before .args in sameSizes (a .«record» .now) (a .tally .now) ≡ true
+same : (c : tie.Else1) → let a = c .before .before .before .before .before .args in fitsTally (a .«record» .now) (a .tally .now) ≡ true
 same c = sym (c .before .same-sizes .ensures) ∙ not-false _ (c .if1 .left)
 
 -- the slice with its round counted has its head too
-counted-head : (c : tie.After-count-round) → head ≤ length (c .count-round .last .0)
+counted-head : (c : tie.After-count-round) → headWords ≤ length (c .count-round .last .0)
 counted-head c =
     let s = c .before .before .before .before .before .before .before .before .before in
     let t = s .args .tally .now in
@@ -70,7 +70,7 @@ raise-requires c κs =
     let s = d .before .before .before .before .before .before .before .before .before in
     let t = s .args .tally .now in
     let h = c .before .read-head .ensures in
-    rw (tail-part (d .count-round .last .0) head, d .count-round .ensures, h .0, h .1)
+    rw (tail-part (d .count-round .last .0) headWords, d .count-round .ensures, h .0, h .1)
     (raisable (s .args .«record» .now) t (s .pre .0) (s .pre .1) (same (d .before .before .before .before)) (rounds t + 1))
 
 same-length-3 : tie.Need-same-length-3
@@ -85,8 +85,8 @@ returns-3 c =
     let h = c .before .before .before .before .read-head .ensures in
     let e = add-done r (s .args .tally .now) (s .pre .0) (s .pre .1) (same (d .before .before .before .before)) (d .before .before .if2 .left) in (
       e .0,
-      put-tail head w (c .before .before .raise .last .0) (raisedCells r (recordSize1 r) (recordSize2 r) (drop head w)) (counted-head d) (rw (tail-part w head, h .0, h .1) at (c .before .before .raise .ensures))
-          ∙ ap (λ x. take head x ++ raisedCells r (recordSize1 r) (recordSize2 r) (drop head x)) (d .count-round .ensures)
+      put-tail headWords w (c .before .before .raise .last .0) (raisedCells r (recordSize1 r) (recordSize2 r) (drop headWords w)) (counted-head d) (rw (tail-part w headWords, h .0, h .1) at (c .before .before .raise .ensures))
+          ∙ ap (λ x. take headWords x ++ raisedCells r (recordSize1 r) (recordSize2 r) (drop headWords x)) (d .count-round .ensures)
           ∙ e .1,
     )
 

@@ -1,4 +1,4 @@
--- The enumeration lists exactly the paths; a walk without its loops is a path that is worth at least as much.
+-- The enumeration lists exactly the routes; a walk without its loops is a route that is worth at least as much.
 use mathlib.Core.Path.{_≡_, refl, sym, subst}
 use mathlib.Core.Logic.{_↔_, ⊎-elim}
 use mathlib.Core.Bool.{Bool, true, false, not, _&&_, cond}
@@ -8,14 +8,14 @@ use native.Mathlib.Omega.{arith}
 use lib.Dec.{T, eqb, eqb→eq, eqb-refl}
 use lib.ListN.{length, length-map}
 use Rattle.laws.specs.Tests.{T-and, decide}
-use Rattle.laws.specs.Members.{_∈_, here, keep-out, keep-in, keep-length, each, each-out, each-in, member, member-out, member-in, without, without-out, without-in, without-length, in-length}
+use Rattle.laws.specs.Members.{_∈_, here, keep-out, keep-in, keep-length, concatMap, concatMap-out, concatMap-in, member, member-out, member-in, without, without-out, without-in, without-length, in-length}
 use Rattle.laws.specs.Pairwise.{Pairwise}
 use Rattle.front.specs.declared.Pair.{Pair}
 use Rattle.front.specs.Front.{AtMost}
 use Rattle.parts.specs.Study.{Arc}
-use Rattle.network.specs.Walk.{Network, Walk, Path, ends, visits, Differ, pairOn, onward, arrived, pathsFrom, paths}
+use Rattle.network.specs.Walk.{Network, Walk, RouteFrom, ends, visits, Differ, pairOn, onward, arrived, routesFrom, routes}
 
--- ---- the enumeration lists exactly the paths
+-- ---- the enumeration lists exactly the routes
 onward-out : (arcs : List Arc) (free : List ℕ) (u : ℕ) (k : Arc) → k ∈ onward arcs free u → (k ∈ arcs) × (k .from ≡ u) × (k .to ∈ free)
 onward-out arcs free u k h =
     let r = keep-out (λ k. eqb (k .from) u && member (k .to) free) arcs h in
@@ -58,36 +58,36 @@ module _ (arcs : List Arc) (t : ℕ) where
         λ v m. ⊎-elim (λ e. Memᴰ·cast e (o .2)) (λ q. without-out (k .to) free (f .2 v q) .0) (List·Memᴰ·cases-cons m),
       )
 
-  from-out : (n : ℕ) (free : List ℕ) (u : ℕ) (r : List Arc) → r ∈ pathsFrom arcs t n free u → Free free u r
+  from-out : (n : ℕ) (free : List ℕ) (u : ℕ) (r : List Arc) → r ∈ routesFrom arcs t n free u → Free free u r
   from-out zero free u r h = home free u r h
   from-out (suc n) free u r h =
       ⊎-elim (home free u r) (on (λ k ks. from-out n (without (k .to) free) (k .to) ks)) (List·Memᴰ·append-cases (arrived t u) h)
     where
       by : Arc → List (List Arc)
-      by k = map (λ ks. k ∷ ks) (pathsFrom arcs t n (without (k .to) free) (k .to))
+      by k = map (λ ks. k ∷ ks) (routesFrom arcs t n (without (k .to) free) (k .to))
 
-      on : ((k : Arc) (ks : List Arc) → ks ∈ pathsFrom arcs t n (without (k .to) free) (k .to) → Free (without (k .to) free) (k .to) ks) → r ∈ each by (onward arcs free u) → Free free u r
+      on : ((k : Arc) (ks : List Arc) → ks ∈ routesFrom arcs t n (without (k .to) free) (k .to) → Free (without (k .to) free) (k .to) ks) → r ∈ concatMap by (onward arcs free u) → Free free u r
       on rec m =
-          let a = each-out by (onward arcs free u) m in
-          let b = Memᴰ·of-map (λ ks. a .0 ∷ ks) (pathsFrom arcs t n (without (a .0 .to) free) (a .0 .to)) (a .2) in
+          let a = concatMap-out by (onward arcs free u) m in
+          let b = Memᴰ·of-map (λ ks. a .0 ∷ ks) (routesFrom arcs t n (without (a .0 .to) free) (a .0 .to)) (a .2) in
           subst (Free free u) (b .2) (further free u (a .0) (b .0) (a .1) (rec (a .0) (b .0) (b .1)))
 
-  from-in : (n : ℕ) (free : List ℕ) (u : ℕ) (r : List Arc) → length free ≤ n → Free free u r → r ∈ pathsFrom arcs t n free u
+  from-in : (n : ℕ) (free : List ℕ) (u : ℕ) (r : List Arc) → length free ≤ n → Free free u r → r ∈ routesFrom arcs t n free u
   from-in zero free u [] h f = arrived-in t u (f .0)
   from-in zero free u (k ∷ ks) h f = absurd (omega (arith, in-length (f .2 (k .to) here)))
   from-in (suc n) free u [] h f = Memᴰ·append-left _ (arrived-in t u (f .0))
   from-in (suc n) free u (k ∷ ks) h f =
       let rest = from-in n (without (k .to) free) (k .to) ks (omega (arith, without-length (f .2 (k .to) here))) (f .0 .2, f .1 .1, λ v m. without-in (k .to) (f .2 v (List·Memᴰ·tail m)) (f .1 .0 v m)) in
       Memᴰ·append-right (arrived t u)
-      (each-in (λ k. map (λ ks. k ∷ ks) (pathsFrom arcs t n (without (k .to) free) (k .to))) (onward-in free u k (f .0 .0) (f .0 .1) (f .2 (k .to) here)) (Memᴰ·map (λ ks. k ∷ ks) rest))
+      (concatMap-in (λ k. map (λ ks. k ∷ ks) (routesFrom arcs t n (without (k .to) free) (k .to))) (onward-in free u k (f .0 .0) (f .0 .1) (f .2 (k .to) here)) (Memᴰ·map (λ ks. k ∷ ks) rest))
 
 walk-ends : (arcs : List Arc) (u v : ℕ) (r : List Arc) → Walk arcs u v r → (x : ℕ) → x ∈ ends r → x ∈ ends arcs
 walk-ends arcs u v [] w x m = elim m [ ]
 walk-ends arcs u v (k ∷ ks) w x m = ⊎-elim (λ e. Memᴰ·cast e (Memᴰ·map (λ (k : Arc). k .to) (w .0))) (walk-ends arcs (k .to) v ks (w .2) x) (List·Memᴰ·cases-cons m)
 
--- `paths` lists the paths from source to target, and nothing else
-pub paths-are : (net : Network) (r : List Arc) → (r ∈ paths net) ↔ Path (net .arcs) (net .source) (net .target) r
-paths-are net r =
+-- `routes` lists the routes from source to target, and nothing else
+pub routes-are : (net : Network) (r : List Arc) → (r ∈ routes net) ↔ RouteFrom (net .arcs) (net .source) (net .target) r
+routes-are net r =
     let free = without (net .source) (ends (net .arcs)) in (
       λ h. let f = from-out (net .arcs) (net .target) (length (net .arcs)) free (net .source) r h in (f .0, (λ v m. without-out (net .source) (ends (net .arcs)) (f .2 v m) .1, f .1)),
       λ h.
@@ -96,14 +96,14 @@ paths-are net r =
           (h .0, h .1 .1, λ v m. without-in (net .source) (walk-ends (net .arcs) (net .source) (net .target) r (h .0) v m) (h .1 .0 v m)),
     )
 
--- ---- a walk without its loops is a path whose pair is at least as large
+-- ---- a walk without its loops is a route whose pair is at least as large
 module _ (net : Network) where
-  -- a path from u to the target with a pair of at least p
+  -- a route from u to the target with a pair of at least p
   abbrev Reaches : ℕ → Pair → Type 0
-  Reaches u p = (r : List Arc) × Path (net .arcs) u (net .target) r × AtMost p (pairOn net u r)
+  Reaches u p = (r : List Arc) × RouteFrom (net .arcs) u (net .target) r × AtMost p (pairOn net u r)
 
-  -- a path that passes x, from x on
-  cut : (x u : ℕ) (ks : List Arc) → Path (net .arcs) u (net .target) ks → x ∈ visits u ks → Reaches x (pairOn net u ks)
+  -- a route that passes x, from x on
+  cut : (x u : ℕ) (ks : List Arc) → RouteFrom (net .arcs) u (net .target) ks → x ∈ visits u ks → Reaches x (pairOn net u ks)
   cut x u ks r (List·Memᴰ·head e) = subst (λ v. Reaches v (pairOn net u ks)) (sym e) (ks, r, omega arith)
   cut x u (k ∷ ks) r (List·Memᴰ·tail m) = let c = cut x (k .to) ks (r .0 .2, r .1 .1) m in (c .0, c .1, omega arith)
   cut x u [] r (List·Memᴰ·tail m) = elim m [ ]
