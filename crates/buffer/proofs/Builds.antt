@@ -13,11 +13,13 @@ use Rattle.laws.specs.Members.{_∈_, here}
 use Rattle.laws.specs.Parts.{set-two, drop-two}
 use Rattle.front.specs.declared.Pair.{Pair}
 use Rattle.front.specs.Pair.{pairOf, covers, dominates}
-use Rattle.front.specs.Front.{front, Falls, AtMost, RecordForm}
+use Rattle.front.specs.Front.{front, Falls, AtMost}
+use Rattle.front.specs.Steps.{RecordForm}
 use Rattle.front.proofs.Pairs.{Above, covers-is, dominates-is}
 use Rattle.front.proofs.Fronts.{form-short}
-use Rattle.record.specs.Record.{recordSize1, recordSize2, pairCount, flat, listed, recordBytes, frontBytes, pairAt}
-use Rattle.buffer.specs.Buffer.{recordIn, stored, Puttable}
+use Rattle.record.specs.Record.{recordSize1, recordSize2, pairCount, flat, listed, recordBytes, frontBytes}
+use Rattle.record.specs.Steps.{pairAt}
+use Rattle.buffer.specs.Steps.{recordIn, stored, Puttable}
 use Rattle.record.proofs.Bytes.{flat-length, flat-append, take-flat, pair-at, listed-length, record-whole}
 use Rattle.record.proofs.Records.{IsRecord, record-is}
 use Rattle.buffer.proofs.Puts.{put-first, put-covered, put-over, put-form, put-behind}

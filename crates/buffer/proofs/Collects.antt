@@ -11,12 +11,13 @@ use Rattle.limits.specs.Limits.{maxClass}
 use Rattle.laws.specs.Members.{_∈_, any-append}
 use Rattle.front.specs.declared.Pair.{Pair}
 use Rattle.front.specs.Pair.{holdsAt}
-use Rattle.front.specs.Front.{holds, front, Within, AllWithin, RecordForm}
+use Rattle.front.specs.Front.{holds, front, Within, AllWithin}
+use Rattle.front.specs.Steps.{RecordForm}
 use Rattle.front.proofs.Pairs.{numbers}
 use Rattle.front.proofs.Fronts.{front-are, front-form, front-holds, form-same}
 use Rattle.front.proofs.Joins.{append-within}
-use Rattle.record.specs.Record.{recordSize1, recordSize2, pairCount, listed, recordBytes, frontBytes}
-use Rattle.buffer.specs.Buffer.{recordIn, longest, Puttable}
+use Rattle.record.specs.Record.{recordSize1, recordSize2, pairCount, listed, recordBytes, frontBytes, longest}
+use Rattle.buffer.specs.Steps.{recordIn, Puttable}
 use Rattle.record.proofs.Bytes.{paired-flat}
 use Rattle.record.proofs.Records.{IsRecord, record-is, form-is-record}
 

@@ -7,7 +7,8 @@ use native.Mathlib.Omega.{arith}
 use Rattle.laws.specs.Members.{_∈_, here}
 use Rattle.laws.specs.Pairwise.{pairwise-append, pairwise-left, pairwise-across}
 use Rattle.front.specs.declared.Pair.{Pair}
-use Rattle.front.specs.Front.{front, Within, Falls, RecordForm, AtMost}
+use Rattle.front.specs.Front.{front, Within, Falls, AtMost}
+use Rattle.front.specs.Steps.{RecordForm}
 use Rattle.front.proofs.Pairs.{Above, numbers}
 use Rattle.front.proofs.Fronts.{form-front, form-is-front}
 

@@ -9,8 +9,8 @@ ghost use Prim.Native.Nat.{_≤_, _<_, _-_};
 ghost use lib.ListN.{length, replicate};
 ghost use Rattle.limits.specs.Limits.{maxClass};
 ghost use Rattle.answer.specs.Outcome.{written, fillAnswer, fillOut};
-ghost use Rattle.record.specs.Record.{recordSize1, recordSize2, listed, frontBytes};
-ghost use Rattle.buffer.specs.Buffer.{longest, recordIn, stored, Puttable};
+ghost use Rattle.record.specs.Record.{recordSize1, recordSize2, listed, frontBytes, longest};
+ghost use Rattle.buffer.specs.Steps.{recordIn, stored, Puttable};
 
 // The most bytes that a record has: 3, and 2 for each pair.
 pub const LONGEST: usize = 3 + 2 * (MAX_CLASS + 1);

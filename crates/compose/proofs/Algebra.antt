@@ -4,7 +4,8 @@ use mathlib.Core.List.{List}
 use Prim.Native.Nat.{ℕ}
 use native.Mathlib.Omega.{arith}
 use Rattle.front.specs.declared.Pair.{Pair}
-use Rattle.front.specs.Front.{front, holds, minima, seriesFront, parallelFront, RecordForm}
+use Rattle.front.specs.Front.{front, holds, minima, seriesFront, parallelFront}
+use Rattle.front.specs.Steps.{RecordForm}
 use Rattle.front.proofs.Fronts.{front-form, form-same}
 use Rattle.record.specs.Record.{recordSize1, recordSize2, listed, recordBytes, frontBytes, recordHolds}
 use Rattle.record.proofs.Bytes.{paired-flat, record-whole}

@@ -9,7 +9,8 @@ use Rattle.laws.specs.Members.{here, there}
 use Rattle.answer.specs.Outcome.{success, outcome}
 use Rattle.answer.proofs.Outcomes.{outcome-tests}
 use Rattle.record.specs.Record.{isRecord}
-use Rattle.compose.specs.Compose.{sameSizes, recordTests, Joinable}
+use Rattle.compose.specs.Compose.{sameSizes, recordTests}
+use Rattle.compose.specs.Steps.{Joinable}
 
 pub joined-joinable : (x y : List ℕ) → outcome (recordTests x y) (0 ∷ []) ≡ success (0 ∷ []) → Joinable x y
 joined-joinable x y e =

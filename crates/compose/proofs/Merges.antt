@@ -15,15 +15,17 @@ use Rattle.laws.specs.Members.{here, any-out, any-append, at-in}
 use Rattle.laws.specs.Pairwise.{Pairwise, pairwise-drop}
 use Rattle.front.specs.declared.Pair.{Pair}
 use Rattle.front.specs.Pair.{pairOf, minPair, holdsAt}
-use Rattle.front.specs.Front.{holds, minima, Within, Falls, RecordForm}
+use Rattle.front.specs.Front.{holds, minima, Within, Falls}
+use Rattle.front.specs.Steps.{RecordForm}
 use Rattle.front.proofs.Pairs.{numbers, holds-is, min-holds}
 use Rattle.front.proofs.Joins.{minima-within, minima-holds, append-within}
-use Rattle.record.specs.Record.{recordSize1, recordSize2, pairCount, listed, pairAt, frontBytes, isRecord}
-use Rattle.buffer.specs.Buffer.{recordIn, longest, Puttable}
+use Rattle.record.specs.Record.{recordSize1, recordSize2, pairCount, listed, frontBytes, isRecord, longest}
+use Rattle.record.specs.Steps.{pairAt}
+use Rattle.buffer.specs.Steps.{recordIn, Puttable}
 use Rattle.record.proofs.Bytes.{pair-at, listed-length}
 use Rattle.record.proofs.Records.{record-is, record-few}
 use Rattle.buffer.proofs.Collects.{Where, Collects, collects-none, collects-puttable, collects-more, collects-all}
-use Rattle.compose.specs.Compose.{Joinable}
+use Rattle.compose.specs.Steps.{Joinable}
 
 -- ---- what is left of two lists: where both hold, where one does
 abbrev pub both : List Pair → List Pair → Where

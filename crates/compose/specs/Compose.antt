@@ -2,7 +2,7 @@
 use mathlib.Core.Bool.{Bool, not, _&&_}
 use mathlib.Core.List.{List, [], _∷_}
 use Prim.Native.Nat.{ℕ}
-use lib.Dec.{T, eqb}
+use lib.Dec.{eqb}
 use Rattle.answer.specs.Outcome.{Outcome, fillAnswer, fillOut}
 use Rattle.front.specs.Front.{seriesFront, parallelFront}
 use Rattle.record.specs.Record.{recordSize1, recordSize2, listed, recordBytes, isRecord}
@@ -35,9 +35,3 @@ parallelAnswer x y room = fillAnswer (recordTests x y) (parallelBytes x y) room
 
 abbrev pub parallelOut : List ℕ → List ℕ → List ℕ → List ℕ
 parallelOut x y out = fillOut (recordTests x y) (parallelBytes x y) out
-
--- two records that may be joined: neither 12 nor 13
-pub record Joinable (x y : List ℕ) : Type 0 where
-  pub left-is : T (isRecord x)
-  pub right-is : T (isRecord y)
-  pub same : T (sameSizes x y)

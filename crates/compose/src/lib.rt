@@ -9,8 +9,9 @@ ghost use mathlib.Core.Path.{_≡_};
 ghost use mathlib.Core.List.{[], _∷_};
 ghost use lib.ListN.{length};
 ghost use Rattle.answer.specs.Outcome.{written, done, outcome};
-ghost use Rattle.buffer.specs.Buffer.{recordIn};
-ghost use Rattle.compose.specs.Compose.{Joinable, recordTests, seriesBytes, parallelBytes, seriesAnswer, seriesOut, parallelAnswer, parallelOut};
+ghost use Rattle.buffer.specs.Steps.{recordIn};
+ghost use Rattle.compose.specs.Compose.{recordTests, seriesBytes, parallelBytes, seriesAnswer, seriesOut, parallelAnswer, parallelOut};
+ghost use Rattle.compose.specs.Steps.{Joinable};
 
 // The series of two records: it holds where both do.
 pub fn series(left: &[u8], right: &[u8], out: &mut [u8]) -> Written

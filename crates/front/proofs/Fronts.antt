@@ -11,7 +11,8 @@ use Rattle.laws.specs.Members.{_∈_, here, there, any, any-out, any-in, keep-o
 use Rattle.laws.specs.Pairwise.{Pairwise, pairwise-keep, pairwise-to, pairwise-either, pairwise-same}
 use Rattle.front.specs.declared.Pair.{Pair}
 use Rattle.front.specs.Pair.{dominates, holdsAt}
-use Rattle.front.specs.Front.{holds, undominated, grid, front, Within, AllWithin, Falls, RecordForm, SameCounts, AtMost, Under}
+use Rattle.front.specs.Front.{holds, undominated, grid, front, Within, AllWithin, Falls, AtMost}
+use Rattle.front.specs.Steps.{RecordForm, SameCounts, Under}
 use Rattle.front.proofs.Pairs.{pair-eq, numbers, dominates-is, holds-is, undominated-is}
 use Rattle.front.proofs.Grid.{grid-in, grid-out, Before, grid-ordered}
 

@@ -8,7 +8,8 @@ use native.Mathlib.Omega.{arith}
 use Rattle.laws.specs.Members.{here, there, any-append}
 use Rattle.front.specs.declared.Pair.{Pair}
 use Rattle.front.specs.Pair.{minPair, holdsAt}
-use Rattle.front.specs.Front.{holds, front, minima, seriesFront, parallelFront, AllWithin, RecordForm}
+use Rattle.front.specs.Front.{holds, front, minima, seriesFront, parallelFront, AllWithin}
+use Rattle.front.specs.Steps.{RecordForm}
 use Rattle.front.proofs.Pairs.{numbers, min-holds}
 use Rattle.front.proofs.Fronts.{front-within, front-form, front-holds, form-same}
 

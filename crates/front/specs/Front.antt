@@ -1,10 +1,8 @@
 -- The front of a list of pairs, and how two fronts are joined (document 01, "Positions, routes and the search" and "Row and side").
-use mathlib.Core.Path.{_≡_}
 use mathlib.Core.Bool.{Bool, not, _&&_}
 use mathlib.Core.List.{List, [], _∷_, _++_, map}
 use Prim.Native.Nat.{ℕ, zero, suc, _≤_, _<_}
 use Rattle.laws.specs.Members.{_∈_, any, keep}
-use Rattle.laws.specs.Pairwise.{Pairwise}
 use Rattle.front.specs.declared.Pair.{Pair}
 use Rattle.front.specs.Pair.{pairOf, minPair, same, dominates, holdsAt}
 
@@ -57,19 +55,6 @@ AllWithin n1 n2 l = (p : Pair) → p ∈ l → Within n1 n2 p
 abbrev pub Falls : Pair → Pair → Type 0
 Falls p q = (q .p1 .0 < p .p1 .0) × (p .p2 .0 < q .p2 .0)
 
--- the pairs of a record: in range, and in order
-pub record RecordForm (n1 n2 : ℕ) (l : List Pair) : Type 0 where
-  pub within : AllWithin n1 n2 l
-  pub falls : Pairwise Falls l
-
--- two lists hold at the same counts: a from 0 to n1, b from 0 to n2
-abbrev pub SameCounts : ℕ → ℕ → List Pair → List Pair → Type 0
-SameCounts n1 n2 l m = (a b : ℕ) → a ≤ n1 → b ≤ n2 → holds l a b ≡ holds m a b
-
 -- p is at most q, in both numbers
 abbrev pub AtMost : Pair → Pair → Type 0
 AtMost p q = (p .p1 .0 ≤ q .p1 .0) × (p .p2 .0 ≤ q .p2 .0)
-
--- each pair of l is at most some pair of m
-abbrev pub Under : List Pair → List Pair → Type 0
-Under l m = (p : Pair) → p ∈ l → (q : Pair) × (q ∈ m) × AtMost p q

@@ -8,8 +8,8 @@ use lib.ListN.{length, getD, set, length-set}
 use lib.Seq.{getD-set-same, getD-set-other}
 use Rattle.limits.specs.Limits.{arcSize, arcCount, maxPosition}
 use Rattle.laws.specs.Tests.{order, equal}
-use Rattle.relax.specs.Labels.{Walked, held-lower, held-t, pair-first}
-use Rattle.relax.specs.State.{Graph, Chains, toAt, graphNetwork, low, Quiet, Ripe, Why, quiet, piled, waits, left, Named, Work, Kept, NextLevel, Still, Room, Lengths, start}
+use Rattle.relax.specs.Steps.{Walked, Graph, Chains, toAt, graphNetwork, low, Quiet, Ripe, Why, quiet, piled, waits, left, Named, Work, Kept, NextLevel, Still, Room, Lengths, start}
+use Rattle.relax.proofs.Labels.{held-lower, held-t, pair-first}
 use Rattle.relax.proofs.Spreads.{low-less}
 
 -- ---- the same labels with another stack

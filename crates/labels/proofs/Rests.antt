@@ -11,8 +11,8 @@ use Rattle.laws.specs.Tests.{order}
 use Rattle.front.specs.Front.{holds}
 use Rattle.parts.specs.Study.{Arc}
 use Rattle.network.specs.Walk.{routePairs}
-use Rattle.relax.specs.Labels.{calm-hold}
-use Rattle.relax.specs.State.{Graph, Laid, graphNetwork, toAt, Still, start}
+use Rattle.relax.proofs.Labels.{calm-hold}
+use Rattle.relax.specs.Steps.{Graph, Laid, graphNetwork, toAt, Still, start}
 use Rattle.relax.proofs.Arcs.{arcs-out}
 
 pub at-rest : {f : Graph} {a : ℕ} {d wait : List ℕ} → Still f a d wait → a ≤ f .n1 → (b : ℕ) → T (holds (routePairs (graphNetwork f)) a b) ↔ (b < getD d (f .source) 0)

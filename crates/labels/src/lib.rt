@@ -8,7 +8,7 @@ ghost use mathlib.Core.List.{[], _∷_};
 ghost use Prim.Native.Nat.{_-_, _/_, _≤_, _<_, _+_};
 ghost use lib.ListN.{length};
 ghost use Rattle.limits.specs.Limits.{arcCount, maxPosition};
-ghost use Rattle.relax.specs.State.{graphOf, Chains, Work, NextLevel, Still, Room, Lengths, start};
+ghost use Rattle.relax.specs.Steps.{graphOf, Chains, Work, NextLevel, Still, Room, Lengths, start};
 
 // All that a level reaches from a node, and what then waits below it: until the source has the
 // level, or nothing is left.

@@ -22,7 +22,8 @@ use Rattle.tally.specs.Adds.{succeeds, Tallies}
 use Rattle.tally.proofs.News.{new-done}
 use Rattle.tally.proofs.Runs.{new-tallies, add-tallies}
 use Rattle.lines.specs.Text.{sizesLine, countLine, refusedLine}
-use Rattle.lines.specs.Report.{byAnswer, tallyRow, countLines, tallyAfter, roundAnswer, roundLine, roundTally, roundLines, freshFor, openLines, maxInput, reportOpens, reportLines, joined, reportText, lineAt, firstLines, Due, NextLine}
+use Rattle.lines.specs.Report.{byAnswer, tallyRow, countLines, tallyAfter, roundAnswer, roundLine, roundLines, freshFor, openLines, maxInput, reportOpens, reportLines, joined, reportText, lineAt, firstLines}
+use Rattle.lines.specs.Steps.{roundTally, Due, NextLine}
 
 -- ---- THE LINES IN THEIR ORDER ARE THE WHOLE TEXT
 joined-append : (a b : List (List ℕ)) → joined (a ++ b) ≡ joined a ++ joined b

@@ -2,13 +2,13 @@
 use mathlib.Core.Path.{_≡_}
 use mathlib.Core.Bool.{Bool, true, cond}
 use mathlib.Core.List.{List, [], _∷_, _++_}
-use Prim.Native.Nat.{ℕ, zero, suc, _+_, _-_, _*_, _≤_, _<_, min}
+use Prim.Native.Nat.{ℕ, zero, suc, _+_, _*_, _≤_}
 use lib.Dec.{ltb}
 use lib.ListN.{length, getD, take, drop, replicate}
 use Rattle.answer.specs.Outcome.{Outcome, success, refused}
 use Rattle.study.specs.Calls.{openedRounds, openedSize1, openedSize2, openAnswer}
 use Rattle.search.specs.Search.{searchBytes, searchAnswer}
-use Rattle.buffer.specs.Buffer.{longest}
+use Rattle.record.specs.Record.{longest}
 use Rattle.soundness.specs.Tally.{headWords, tallySize2, width, largest}
 use Rattle.tally.specs.Calls.{newOut, addOut}
 use Rattle.lines.specs.Text.{sizesLine, frontLine, countLine, refusedLine}
@@ -36,12 +36,9 @@ tallyAfter f t (suc r) = addOut (searchBytes f r) (tallyAfter f t r)
 abbrev pub roundAnswer : List ℕ → ℕ → Outcome
 roundAnswer f r = searchAnswer f r longest
 
--- the line of round r, and the tally after it
+-- the line of round r
 abbrev pub roundLine : List ℕ → ℕ → List ℕ
 roundLine f r = byAnswer (roundAnswer f r) refusedLine (λ v. frontLine r (searchBytes f r))
-
-abbrev pub roundTally : List ℕ → ℕ → List ℕ → List ℕ
-roundTally f r t = byAnswer (roundAnswer f r) (λ n. t) (λ v. addOut (searchBytes f r) t)
 
 -- the fronts from round r on, k of them, and then the counts; a bad round ends the report
 abbrev pub roundLines : List ℕ → List ℕ → ℕ → ℕ → ℕ → List (List ℕ)
@@ -85,18 +82,6 @@ lineAt f i = getD (reportLines f) i []
 abbrev pub firstLines : List ℕ → ℕ → List ℕ
 firstLines f zero = []
 firstLines f (suc n) = firstLines f n ++ lineAt f n
-
--- line i of an open study is due, with the tally t
-pub record Due (f v : List ℕ) (i : ℕ) (t : List ℕ) : Type 0 where
-  -- there is such a line
-  pub line : i < length (reportLines f)
-  -- the tally has the rounds whose lines stand before it
-  pub tally : t ≡ tallyAfter f (freshFor v) (min (i - 1) (openedRounds v))
-
--- after line i: whether another follows, and is due with the tally t
-pub record NextLine (f v : List ℕ) (i : ℕ) (b : Bool) (t : List ℕ) : Type 0 where
-  pub more : b ≡ ltb (i + 1) (length (reportLines f))
-  pub due : b ≡ true → Due f v (i + 1) t
 
 -- n lines of a report were written, and whether that is all of them
 pub record SentOf (ls : List (List ℕ)) (n : ℕ) (whole : Bool) : Type 0 where

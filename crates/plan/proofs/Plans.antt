@@ -14,7 +14,8 @@ use Rattle.front.specs.Front.{AtMost}
 use Rattle.record.specs.Record.{recordSize1, recordSize2, listed, isRecord, recordHolds}
 use Rattle.record.proofs.Bytes.{listed-length}
 use Rattle.record.proofs.Records.{record-is, record-few}
-use Rattle.compose.specs.Compose.{seriesBytes, parallelBytes, Joinable}
+use Rattle.compose.specs.Compose.{seriesBytes, parallelBytes}
+use Rattle.compose.specs.Steps.{Joinable}
 use Rattle.compose.specs.Laws.{Sized, Laws}
 use Rattle.compose.proofs.Algebra.{laws}
 use Rattle.parts.specs.Study.{Arc}

@@ -6,7 +6,8 @@ use native.Mathlib.Omega.{arith}
 use lib.ListN.{length, getD, take}
 use Rattle.front.specs.declared.Pair.{Pair}
 use Rattle.front.specs.Pair.{pairOf}
-use Rattle.record.specs.Record.{recordSize1, recordSize2, pairCount, paired, flat, listed, recordBytes, pairAt}
+use Rattle.record.specs.Record.{recordSize1, recordSize2, pairCount, paired, flat, listed, recordBytes}
+use Rattle.record.specs.Steps.{pairAt}
 
 pub paired-flat : (l : List Pair) → paired (flat l) ≡ l
 paired-flat [] = refl

@@ -13,7 +13,8 @@ use Rattle.laws.specs.Tests.{T-ext, T-and}
 use Rattle.laws.specs.Members.{here, all, all-are}
 use Rattle.laws.specs.Pairwise.{Pairwise}
 use Rattle.front.specs.declared.Pair.{Pair}
-use Rattle.front.specs.Front.{front, Within, Falls, RecordForm}
+use Rattle.front.specs.Front.{front, Within, Falls}
+use Rattle.front.specs.Steps.{RecordForm}
 use Rattle.front.proofs.Pairs.{numbers}
 use Rattle.front.proofs.Fronts.{front-form, form-front, form-short}
 use Rattle.record.specs.Record.{recordSize1, recordSize2, pairCount, listed, recordBytes, inRange, follows, fallsFrom, falling, isRecord, ListsFront}

@@ -36,16 +36,16 @@ flat (p ∷ l) = p .p1 .0 ∷ p .p2 .0 ∷ flat l
 abbrev pub listed : List ℕ → List Pair
 listed b = paired (drop 3 b)
 
--- the pair at a place of a record; (0, 0), which holds nowhere, past its bytes
-abbrev pub pairAt : List ℕ → ℕ → Pair
-pairAt b i = pairOf (getD b (3 + 2 * i) 0) (getD b (4 + 2 * i) 0)
-
 -- the record that lists the pairs of l, and the record of l's front
 abbrev pub recordBytes : ℕ → ℕ → List Pair → List ℕ
 recordBytes n1 n2 l = n1 ∷ n2 ∷ length l ∷ flat l
 
 abbrev pub frontBytes : ℕ → ℕ → List Pair → List ℕ
 frontBytes n1 n2 l = recordBytes n1 n2 (front n1 n2 l)
+
+-- the most bytes that a record has: 3, and 2 for each pair, of which there are at most one more than the smaller class has nodes
+abbrev pub longest : ℕ
+longest = 3 + 2 * (maxClass + 1)
 
 -- a record holds at (a, b) where one of its pairs does
 abbrev pub recordHolds : List ℕ → ℕ → ℕ → Bool

@@ -6,7 +6,8 @@ use slices::byte;
 use slices::wide;
 pub use valid::is_record;
 ghost use mathlib.Core.Path.{_≡_};
-ghost use Rattle.record.specs.Record.{recordSize1, recordSize2, pairCount, pairAt, recordHolds};
+ghost use Rattle.record.specs.Record.{recordSize1, recordSize2, pairCount, recordHolds};
+ghost use Rattle.record.specs.Steps.{pairAt};
 
 // The three bytes in front of the pairs.
 pub struct Head {

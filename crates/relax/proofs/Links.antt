@@ -8,7 +8,7 @@ use lib.ListN.{length, getD, set, length-set}
 use lib.Seq.{getD-set-same, getD-set-other}
 use Rattle.limits.specs.Limits.{maxArcs, arcSize, arcCount}
 use Rattle.laws.specs.Tests.{order, equal}
-use Rattle.relax.specs.State.{Chains, toAt}
+use Rattle.relax.specs.Steps.{Chains, toAt}
 
 pub unlinked : (arcs first more : List ℕ) → ((v : ℕ) → getD first v 0 ≡ 0) → Chains arcs first more 0
 unlinked arcs first more z =

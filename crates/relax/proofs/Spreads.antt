@@ -9,8 +9,8 @@ use lib.Seq.{getD-set-same, getD-set-other}
 use Rattle.limits.specs.Limits.{maxNodes, maxArcs, arcSize, arcCount, maxPosition}
 use Rattle.laws.specs.Tests.{order, equal}
 use Rattle.laws.specs.Members.{_∈_}
-use Rattle.relax.specs.Labels.{Walked, held-raise}
-use Rattle.relax.specs.State.{Graph, Chains, fromAt, toAt, graphNetwork, low, Quiet, Ripe, Why, quiet, piled, waits, left, Marked, Work, Kept}
+use Rattle.relax.specs.Steps.{Walked, Graph, Chains, fromAt, toAt, graphNetwork, low, Quiet, Ripe, Why, quiet, piled, waits, left, Marked, Work, Kept}
+use Rattle.relax.proofs.Labels.{held-raise}
 use Rattle.relax.proofs.Arcs.{arcs-in}
 
 -- ---- the count of low labels

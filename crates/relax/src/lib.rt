@@ -8,7 +8,7 @@ ghost use mathlib.Core.Path.{_≡_};
 ghost use Prim.Native.Nat.{ℕ, _-_, _/_, _≤_, _<_, _*_};
 ghost use lib.ListN.{length, getD};
 ghost use Rattle.limits.specs.Limits.{maxArcs, arcSize, arcCount};
-ghost use Rattle.relax.specs.State.{graphOf, moved, Chains, Work, Kept};
+ghost use Rattle.relax.specs.Steps.{graphOf, moved, Chains, Work, Kept};
 
 // Where a spread stands: the ends and sizes of the network; x, one more than the class 1 failures;
 // the level that spreads, the node at work and the height of the stack.

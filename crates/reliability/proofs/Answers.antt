@@ -15,7 +15,8 @@ use Rattle.chance.specs.Chance.{rateR, Near}
 use Rattle.soundness.specs.Tally.{tallySize1, tallySize2, rounds, cell, stateTests, stateAnswer}
 use Rattle.chance.proofs.Bounds.{near-formula}
 use Rattle.soundness.proofs.States.{state-sound}
-use Rattle.reliability.specs.Calls.{tallyS, rateTests, rateAnswer, Ratable}
+use Rattle.reliability.specs.Calls.{tallyS, rateTests, rateAnswer}
+use Rattle.reliability.specs.Steps.{Ratable}
 
 both-small : (p1 p2 : ℕ) → ltb 1000000 p1 || ltb 1000000 p2 ≡ false → (p1 ≤ 1000000) × (p2 ≤ 1000000)
 both-small p1 p2 e = let k = or-none (ltb 1000000 p1) (ltb 1000000 p2) e in (ltb-false 1000000 p1 (k .0), ltb-false 1000000 p2 (k .1))

@@ -14,7 +14,8 @@ use Rattle.soundness.specs.Tally.{headWords, tallySize1, tallySize2, width, cel
 use Rattle.chance.proofs.Weights.{weights-length, weight-total}
 use Rattle.chance.proofs.Bounds.{by-rows}
 use Rattle.soundness.proofs.States.{state-sound}
-use Rattle.reliability.specs.Calls.{tallyS, rowSum, rowsSum}
+use Rattle.reliability.specs.Calls.{tallyS}
+use Rattle.reliability.specs.Steps.{rowSum, rowsSum}
 
 -- a slice whose first words are the weights
 module _ (p n : ℕ) (r u : List ℕ) (e : u ≡ weights p n ++ r) where

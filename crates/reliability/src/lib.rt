@@ -13,7 +13,8 @@ ghost use Rattle.limits.specs.Limits.{maxClass};
 ghost use Rattle.answer.specs.Outcome.{rated};
 ghost use Rattle.chance.specs.Chance.{rateR};
 ghost use Rattle.soundness.specs.Tally.{rounds};
-ghost use Rattle.reliability.specs.Calls.{rowSum, rowsSum, tallyS, Ratable, rateAnswer};
+ghost use Rattle.reliability.specs.Calls.{tallyS, rateAnswer};
+ghost use Rattle.reliability.specs.Steps.{rowSum, rowsSum, Ratable};
 
 // A row of cells, each times the weight of its place.
 fn row(cells: &[u32], at: usize, v: &[u32], n: usize) -> u64

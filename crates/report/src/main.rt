@@ -12,13 +12,14 @@ ghost use mathlib.Core.Path.{_≡_};
 ghost use Prim.Native.Nat.{_≤_};
 ghost use lib.Dec.{T};
 ghost use lib.ListN.{length};
-ghost use Rattle.slices.specs.Bytes.{placed};
+ghost use Rattle.slices.specs.Steps.{placed};
 ghost use Rattle.answer.specs.Outcome.{success, refused, numberOf, headerValues, opened};
 ghost use Rattle.record.specs.Record.{isRecord};
 ghost use Rattle.tally.specs.Calls.{addOut};
 ghost use Rattle.tally.specs.Adds.{succeeds};
-ghost use Rattle.lines.specs.Text.{lineRoom, frontLine};
-ghost use Rattle.lines.specs.Report.{roundAnswer, roundLine, roundTally, reportOpens, reportLines, lineAt, Due, NextLine, SentOf};
+ghost use Rattle.lines.specs.Text.{frontLine};
+ghost use Rattle.lines.specs.Steps.{lineRoom, roundTally, Due, NextLine};
+ghost use Rattle.lines.specs.Report.{roundAnswer, roundLine, reportOpens, reportLines, lineAt, SentOf};
 
 // A line in the buffer, and whether another follows.
 struct Line {

@@ -16,7 +16,8 @@ use Rattle.laws.specs.Tests.{T-ext, T-true, and-both, order}
 use Rattle.laws.specs.Every.{every, every-at, every-all}
 use Rattle.chance.specs.Chance.{Grows}
 use Rattle.chance.proofs.Bounds.{rising-all}
-use Rattle.soundness.specs.Tally.{headWords, tallySize1, tallySize2, rounds, width, cell, fair, isSound, Sound, risesBy, rowsRise, isFair}
+use Rattle.soundness.specs.Tally.{headWords, tallySize1, tallySize2, rounds, width, cell, fair, isSound, Sound}
+use Rattle.soundness.specs.Steps.{risesBy, rowsRise, isFair}
 
 both : {a b : Bool} → a ≡ true → b ≡ true → a && b ≡ true
 both e f = rw (e, f)

@@ -13,7 +13,8 @@ use Rattle.laws.specs.Tests.{or-none}
 use Rattle.laws.specs.Members.{here, there}
 use Rattle.answer.specs.Outcome.{success, refused}
 use Rattle.answer.proofs.Outcomes.{outcome-tests}
-use Rattle.soundness.specs.Tally.{headWords, tallySize1, tallySize2, rounds, words, noRoom, isSound, Sound, isFair, stateTests, stateAnswer}
+use Rattle.soundness.specs.Tally.{headWords, tallySize1, tallySize2, rounds, words, noRoom, isSound, Sound, stateTests, stateAnswer}
+use Rattle.soundness.specs.Steps.{isFair}
 use Rattle.soundness.proofs.Sounds.{fair-code, sound-is}
 
 -- one of two sizes is too large, or none

@@ -9,7 +9,8 @@ ghost use Prim.Native.Nat.{_+_, _*_, _≤_};
 ghost use lib.ListN.{length};
 ghost use Rattle.limits.specs.Limits.{maxClass};
 ghost use Rattle.answer.specs.Outcome.{done};
-ghost use Rattle.soundness.specs.Tally.{risesBy, rowsRise, isFair, stateAnswer};
+ghost use Rattle.soundness.specs.Tally.{stateAnswer};
+ghost use Rattle.soundness.specs.Steps.{risesBy, rowsRise, isFair};
 
 // The words in front of the cells: n1, n2, M; and the place of M.
 pub const HEAD: usize = 3;

@@ -12,12 +12,12 @@ use Rattle.front.specs.Pair.{pairOf, holdsAt}
 use Rattle.front.specs.Front.{holds, Within, AllWithin}
 use Rattle.front.proofs.Pairs.{holds-is}
 use Rattle.front.proofs.Fronts.{holds-fewer}
-use Rattle.record.specs.Record.{recordSize1, recordSize2, listed, frontBytes}
-use Rattle.buffer.specs.Buffer.{longest, recordIn, Puttable}
+use Rattle.record.specs.Record.{recordSize1, recordSize2, listed, frontBytes, longest}
+use Rattle.buffer.specs.Steps.{recordIn, Puttable}
 use Rattle.buffer.proofs.Collects.{Collects, collects-puttable, collects-more, collects-all}
 use Rattle.network.specs.Walk.{routePairs}
-use Rattle.relax.specs.State.{Graph, graphNetwork}
-use Rattle.sweep.specs.Sweep.{whole, below}
+use Rattle.relax.specs.Steps.{Graph, graphNetwork}
+use Rattle.sweep.specs.Steps.{whole, below}
 
 module _ (f : Graph) where
   pub below-is : (x a b : ℕ) → T (below f x a b) ↔ ((a < x) × T (whole f a b))

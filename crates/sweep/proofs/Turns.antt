@@ -14,14 +14,14 @@ use Rattle.front.specs.Pair.{pairOf, holdsAt}
 use Rattle.front.specs.Front.{Within, AllWithin}
 use Rattle.front.proofs.Pairs.{holds-is}
 use Rattle.front.proofs.Fronts.{holds-fewer}
-use Rattle.record.specs.Record.{recordSize1, recordSize2, listed, frontBytes}
-use Rattle.buffer.specs.Buffer.{longest, recordIn, Puttable}
+use Rattle.record.specs.Record.{recordSize1, recordSize2, listed, frontBytes, longest}
+use Rattle.buffer.specs.Steps.{recordIn, Puttable}
 use Rattle.buffer.proofs.Collects.{Collects, collects-none}
 use Rattle.network.specs.Walk.{routePairs}
-use Rattle.relax.specs.State.{Graph, Laid, Chains, Work, Still, Room, Lengths, graphNetwork, start}
+use Rattle.relax.specs.Steps.{Graph, Laid, Chains, Work, Still, Room, Lengths, graphNetwork, start}
 use Rattle.labels.proofs.Drains.{skipped, entered, first-in}
 use Rattle.labels.proofs.Rests.{at-rest, at-first}
-use Rattle.sweep.specs.Sweep.{whole, below, ByOrder, NextIn}
+use Rattle.sweep.specs.Steps.{whole, below, ByOrder, NextIn}
 use Rattle.sweep.proofs.Sweeps.{Height, below-is, same-height, rise-puttable, rise-height, all-collected}
 
 -- the sweep at x, where `node` enters; `last` is the height after x failures

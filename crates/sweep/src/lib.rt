@@ -11,11 +11,11 @@ ghost use mathlib.Core.Path.{_≡_};
 ghost use mathlib.Core.List.{[], _∷_, _++_};
 ghost use Prim.Native.Nat.{ℕ, _≤_, _<_};
 ghost use lib.ListN.{length, getD};
-ghost use Rattle.record.specs.Record.{recordSize1, recordSize2, listed, frontBytes};
-ghost use Rattle.buffer.specs.Buffer.{longest, recordIn, Puttable};
+ghost use Rattle.record.specs.Record.{recordSize1, recordSize2, listed, frontBytes, longest};
+ghost use Rattle.buffer.specs.Steps.{recordIn, Puttable};
 ghost use Rattle.network.specs.Walk.{routePairs};
-ghost use Rattle.relax.specs.State.{graphOf, graphNetwork};
-ghost use Rattle.sweep.specs.Sweep.{Sweepable, NextIn};
+ghost use Rattle.relax.specs.Steps.{graphOf, graphNetwork};
+ghost use Rattle.sweep.specs.Steps.{Sweepable, NextIn};
 
 // Puts the pair, where its p2 is above the last.
 fn collect(found: &mut [u8; LONGEST], p: Pair, last: Pos2)

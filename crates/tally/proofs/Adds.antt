@@ -18,7 +18,8 @@ use Rattle.answer.proofs.Outcomes.{outcome-refused, outcome-passed}
 use Rattle.record.specs.Record.{isRecord, recordSize1, recordSize2}
 use Rattle.soundness.specs.Tally.{headWords, roundsPlace, tallySize1, tallySize2, rounds, width, cell, Sound, stateTests, stateAnswer}
 use Rattle.tally.specs.Cells.{cellRows, heading}
-use Rattle.tally.specs.Calls.{fitsTally, addAnswer, addOut, added, held, raisedCells, Raisable}
+use Rattle.tally.specs.Calls.{fitsTally, addAnswer, addOut, added, held}
+use Rattle.tally.specs.Steps.{raisedCells, Raisable}
 use Rattle.soundness.proofs.States.{state-sound, state-long, state-room}
 use Rattle.tally.proofs.Headings.{counted, tally-length}
 

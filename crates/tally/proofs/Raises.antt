@@ -14,8 +14,9 @@ use Rattle.front.specs.declared.Pair.{Pair}
 use Rattle.record.specs.Record.{listed, recordHolds}
 use Rattle.record.proofs.Records.{IsRecord, record-is}
 use Rattle.soundness.specs.Tally.{width}
-use Rattle.tally.specs.Cells.{cellRows, bumped, peak, peakAt}
-use Rattle.tally.specs.Calls.{held, raisedCells, Raisable}
+use Rattle.tally.specs.Cells.{cellRows}
+use Rattle.tally.specs.Steps.{bumped, peak, peakAt, raisedCells, Raisable}
+use Rattle.tally.specs.Calls.{held}
 use Rattle.tally.proofs.Peaks.{holds-peak, peak-next, peak-none, peak-most}
 use Rattle.tally.proofs.Tables.{table-length, table-snoc, row-raised}
 

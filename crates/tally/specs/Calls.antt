@@ -1,16 +1,15 @@
 -- What new (01: fresh) and add answer and leave.
-use mathlib.Core.Path.{_≡_}
 use mathlib.Core.Bool.{Bool, not, _&&_, _||_}
-use mathlib.Core.List.{List, [], _∷_, _++_}
-use Prim.Native.Nat.{ℕ, _+_, _-_, _*_, _≤_, _<_}
-use lib.Dec.{T, eqb, ltb}
-use lib.ListN.{length, getD, drop}
+use mathlib.Core.List.{List, [], _∷_}
+use Prim.Native.Nat.{ℕ, _+_, _-_}
+use lib.Dec.{eqb, ltb}
+use lib.ListN.{length}
 use Rattle.limits.specs.Limits.{maxRounds, maxClass}
 use Rattle.laws.specs.Tests.{flag}
 use Rattle.answer.specs.Outcome.{Outcome, outcome, filled}
 use Rattle.record.specs.Record.{isRecord, recordHolds, recordSize1, recordSize2}
-use Rattle.soundness.specs.Tally.{tallySize1, tallySize2, rounds, width, words, cell, noRoom, isSound}
-use Rattle.tally.specs.Cells.{cellRows, tallyOf}
+use Rattle.soundness.specs.Tally.{tallySize1, tallySize2, rounds, words, cell, noRoom, isSound}
+use Rattle.tally.specs.Cells.{tallyOf}
 
 -- ---- NEW (6, 21)
 abbrev pub newTests : ℕ → ℕ → ℕ → List (ℕ × Bool)
@@ -36,22 +35,6 @@ addAnswer r t = outcome (addTests r t) (0 ∷ [])
 -- 1 where the record holds with the last l1 and l2 working
 abbrev pub held : List ℕ → ℕ → ℕ → ℕ → ℕ → ℕ
 held r n1 n2 l1 l2 = flag (recordHolds r (n1 - l1) (n2 - l2))
-
--- the cells alone, each raised by 1 where the record holds
-abbrev pub raisedCells : List ℕ → ℕ → ℕ → List ℕ → List ℕ
-raisedCells r n1 n2 cells = cellRows (n1 + 1) (width n2) (λ l1 l2. getD cells (l1 * width n2 + l2) 0 + held r n1 n2 l1 l2) ++ drop ((n1 + 1) * width n2) cells
-
--- a record whose cells may be raised
-pub record Raisable (cells r : List ℕ) (n1 n2 : ℕ) : Type 0 where
-  -- a front record
-  pub is : T (isRecord r)
-  -- of these class sizes
-  pub one : recordSize1 r ≡ n1
-  pub two : recordSize2 r ≡ n2
-  -- room for every cell
-  pub room : (n1 + 1) * width n2 ≤ length cells
-  -- no cell above the largest M
-  pub below : (i : ℕ) → i < (n1 + 1) * width n2 → getD cells i 0 ≤ maxRounds
 
 -- M and each cell where the record holds raised by 1
 abbrev pub added : List ℕ → List ℕ → List ℕ

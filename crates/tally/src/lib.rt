@@ -18,8 +18,8 @@ ghost use Rattle.limits.specs.Limits.{maxRounds, maxPosition};
 ghost use Rattle.answer.specs.Outcome.{success, done};
 ghost use Rattle.record.specs.Record.{listed, isRecord};
 ghost use Rattle.soundness.specs.Tally.{headWords, roundsPlace, rounds, stateAnswer};
-ghost use Rattle.tally.specs.Cells.{bumped, peakAt};
-ghost use Rattle.tally.specs.Calls.{newAnswer, newOut, Raisable, raisedCells, fitsTally, addAnswer, addOut};
+ghost use Rattle.tally.specs.Steps.{bumped, peakAt, Raisable, raisedCells};
+ghost use Rattle.tally.specs.Calls.{newAnswer, newOut, fitsTally, addAnswer, addOut};
 
 // ---- new
 // Zeros in the first n places.

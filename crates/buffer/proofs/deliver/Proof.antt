@@ -8,7 +8,7 @@ use lib.ListN.{length, take}
 use lib.Seq.{take-all}
 use Rattle.record.specs.Record.{pairCount}
 use Rattle.answer.specs.Outcome.{fillAnswer, fillOut}
-use Rattle.buffer.specs.Buffer.{recordIn}
+use Rattle.buffer.specs.Steps.{recordIn}
 use Rattle.buffer.proofs.deliver.Statement.{statement}
 use Rattle.buffer.proofs.deliver.Tie as tie
 

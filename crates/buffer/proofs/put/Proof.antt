@@ -5,8 +5,9 @@ use native.Mathlib.Omega.{arith}
 use borrow.Author.Needs.{needs}
 use lib.ListN.{length}
 use Rattle.front.specs.Pair.{covers, dominates}
-use Rattle.record.specs.Record.{pairCount, pairAt}
-use Rattle.buffer.specs.Buffer.{recordIn}
+use Rattle.record.specs.Record.{pairCount}
+use Rattle.record.specs.Steps.{pairAt}
+use Rattle.buffer.specs.Steps.{recordIn}
 use Rattle.buffer.proofs.Builds.{stored-long, few, room, wrote-first, wrote-nothing, wrote-over, wrote-behind}
 use Rattle.buffer.proofs.put.Statement.{statement}
 use Rattle.buffer.proofs.put.Tie as tie

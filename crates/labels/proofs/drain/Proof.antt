@@ -5,7 +5,7 @@ use native.Mathlib.Omega.{arith}
 use lib.ListN.{getD, length-set}
 use borrow.Author.Tests.{leb-true}
 use borrow.Author.Needs.{needs}
-use Rattle.relax.specs.State.{graphOf, low}
+use Rattle.relax.specs.Steps.{graphOf, low}
 use Rattle.labels.proofs.Drains.{Draining, begin, pop, rest, drained, unset}
 use Rattle.labels.proofs.drain.Statement.{statement}
 use Rattle.labels.proofs.drain.Tie as tie

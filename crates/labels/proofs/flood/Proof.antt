@@ -5,7 +5,7 @@ use native.Mathlib.Nat.{pos-of-ne-zero}
 use native.Mathlib.Omega.{arith}
 use lib.ListN.{getD}
 use borrow.Author.Needs.{needs}
-use Rattle.relax.specs.State.{graphOf}
+use Rattle.relax.specs.Steps.{graphOf}
 use Rattle.labels.proofs.Drains.{Flooding, flooded, settle, joined}
 use Rattle.labels.proofs.flood.Statement.{statement}
 use Rattle.labels.proofs.flood.Tie as tie

@@ -5,7 +5,7 @@ use native.Mathlib.Omega.{arith}
 use lib.ListN.{getD}
 use borrow.Author.Tests.{leb-true, leb-false, not-true, not-false}
 use borrow.Author.Needs.{needs}
-use Rattle.relax.specs.State.{graphOf}
+use Rattle.relax.specs.Steps.{graphOf}
 use Rattle.relax.proofs.Spreads.{Spreading, Turn, place, at-node, falls, node-in, level-in, passed, again-waits, again-shut, space, again-pushed, idle}
 use Rattle.relax.proofs.spread.Statement.{statement}
 use Rattle.relax.proofs.spread.Tie as tie

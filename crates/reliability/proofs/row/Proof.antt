@@ -5,7 +5,7 @@ use native.Mathlib.Omega.{arith}
 use lib.ListN.{getD}
 use borrow.Author.Needs.{needs}
 use Rattle.laws.specs.Sums.{sum-more, part-fits}
-use Rattle.reliability.specs.Calls.{rowSum}
+use Rattle.reliability.specs.Steps.{rowSum}
 use Rattle.reliability.proofs.row.Statement.{statement}
 use Rattle.reliability.proofs.row.Tie as tie
 

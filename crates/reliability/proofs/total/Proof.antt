@@ -8,7 +8,7 @@ use borrow.Author.Needs.{needs}
 use Rattle.laws.specs.Sums.{sum-more, part-fits}
 use Rattle.limits.specs.Limits.{maxClass}
 use Rattle.soundness.specs.Tally.{width}
-use Rattle.reliability.specs.Calls.{rowSum, rowsSum}
+use Rattle.reliability.specs.Steps.{rowSum, rowsSum}
 use Rattle.reliability.proofs.total.Statement.{statement}
 use Rattle.reliability.proofs.total.Tie as tie
 

@@ -7,7 +7,7 @@ use native.Mathlib.Omega.{arith}
 use borrow.Author.Needs.{needs}
 use Rattle.limits.specs.Limits.{maxClass}
 use Rattle.laws.specs.Every.{every, every-next}
-use Rattle.soundness.specs.Tally.{risesBy}
+use Rattle.soundness.specs.Steps.{risesBy}
 use Rattle.soundness.proofs.rows_rise.Statement.{statement}
 use Rattle.soundness.proofs.rows_rise.Tie as tie
 

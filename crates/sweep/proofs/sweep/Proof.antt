@@ -5,7 +5,7 @@ use native.Mathlib.Omega.{arith}
 use lib.ListN.{replicate, length, getD, length-set}
 use borrow.Author.Needs.{needs}
 use Rattle.limits.specs.Limits.{maxNodes, maxPosition}
-use Rattle.relax.specs.State.{graphOf}
+use Rattle.relax.specs.Steps.{graphOf}
 use Rattle.sweep.proofs.Turns.{Sweeping, begins, puttable, collected, ended, onward}
 use Rattle.sweep.proofs.sweep.Statement.{statement}
 use Rattle.sweep.proofs.sweep.Tie as tie

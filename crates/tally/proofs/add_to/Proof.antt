@@ -10,7 +10,8 @@ use borrow.Author.Needs.{needs}
 use Rattle.laws.specs.Parts.{tail-part}
 use Rattle.record.specs.Record.{recordSize1, recordSize2}
 use Rattle.soundness.specs.Tally.{headWords, rounds}
-use Rattle.tally.specs.Calls.{fitsTally, raisedCells}
+use Rattle.tally.specs.Calls.{fitsTally}
+use Rattle.tally.specs.Steps.{raisedCells}
 use Rattle.soundness.proofs.States.{state-sound, state-long}
 use Rattle.tally.proofs.Adds.{put-tail, add-sizes, add-full, raisable, add-done}
 use Rattle.tally.proofs.add_to.Statement.{statement}

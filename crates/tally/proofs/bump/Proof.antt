@@ -4,7 +4,7 @@ use Prim.Native.Nat.{_+_, _-_, _≤_}
 use native.Mathlib.Omega.{arith}
 use lib.ListN.{length, getD, set, length-set}
 use borrow.Author.Needs.{needs}
-use Rattle.tally.specs.Cells.{bumped}
+use Rattle.tally.specs.Steps.{bumped}
 use Rattle.tally.proofs.Tables.{bump-none, bump-value, bump-next}
 use Rattle.tally.proofs.bump.Statement.{statement}
 use Rattle.tally.proofs.bump.Tie as tie

@@ -7,7 +7,7 @@ use borrow.Author.Needs.{needs}
 use Rattle.limits.specs.Limits.{maxPosition}
 use Rattle.record.specs.Record.{listed}
 use Rattle.soundness.specs.Tally.{width}
-use Rattle.tally.specs.Cells.{peakAt}
+use Rattle.tally.specs.Steps.{peakAt}
 use Rattle.tally.proofs.Raises.{Raising, small, raise-first, fits, room, later, raise-next, raise-last}
 use Rattle.tally.proofs.raise.Statement.{statement}
 use Rattle.tally.proofs.raise.Tie as tie

@@ -1,18 +1,13 @@
--- A record that is being built, at the start of a buffer with room for any record.
+-- STEPS: what proofs and the contracts between our crates speak of. Nobody has to believe these: no promise to a caller cites them.
 use mathlib.Core.Path.{_≡_}
 use mathlib.Core.List.{List}
 use Prim.Native.Nat.{ℕ, _+_, _*_, _≤_}
 use lib.Dec.{T}
 use lib.ListN.{length, set, take}
-use Rattle.limits.specs.Limits.{maxClass}
 use Rattle.laws.specs.Members.{_∈_}
 use Rattle.front.specs.declared.Pair.{Pair}
 use Rattle.front.specs.Front.{Within}
-use Rattle.record.specs.Record.{recordSize1, recordSize2, pairCount, listed, isRecord}
-
--- the most bytes that a record has: 3, and 2 for each pair, of which there are at most one more than the smaller class has nodes
-abbrev pub longest : ℕ
-longest = 3 + 2 * (maxClass + 1)
+use Rattle.record.specs.Record.{recordSize1, recordSize2, pairCount, listed, isRecord, longest}
 
 -- the record that a buffer begins with
 abbrev pub recordIn : List ℕ → List ℕ

@@ -1,15 +1,40 @@
--- The search's state: what it is given, the chains of arcs, and the labels while they spread.
+-- STEPS: what proofs and the contracts between our crates speak of. Nobody has to believe these: no promise to a caller cites them.
 use mathlib.Core.Path.{_≡_}
 use mathlib.Core.List.{List, [], _∷_}
 use Prim.Native.Nat.{ℕ, suc, _+_, _-_, _*_, _≤_, _<_, min, max}
 use lib.ListN.{length, getD}
 use Rattle.limits.specs.Limits.{maxNodes, maxArcs, arcSize, arcCount, maxClass, maxPosition}
+use Rattle.laws.specs.Members.{_∈_}
 use Rattle.front.specs.Pair.{pairOf}
-use Rattle.parts.specs.Study.{arcsFrom}
-use Rattle.network.specs.Walk.{Network}
+use Rattle.parts.specs.Study.{Arc, arcsFrom}
+use Rattle.network.specs.Walk.{Network, Walk, pairOn}
 use Rattle.relax.specs.declared.Step.{Step}
-use Rattle.relax.specs.Labels.{Walked}
 
+-- ---- LABELS: what a number at each node says of the walks from it to the target, while the first a class 1 positions are shut
+module _ (net : Network) (a : ℕ) where
+  -- a walk from v to t that is worth y; v itself may still wait to enter
+  abbrev pub Good : ℕ → ℕ → Type 0
+  Good v y = (ks : List Arc) × Walk (net .arcs) v (net .target) ks × (min (suc a) (net .node v .p1 .0) ≤ pairOn net v ks .p1 .0) × (y ≤ pairOn net v ks .p2 .0)
+
+  -- each label above 0 has a walk
+  abbrev pub Walked : (ℕ → ℕ) → Type 0
+  Walked d = (v : ℕ) → 0 < d v → Good v (d v)
+
+  -- what is needed of an end, while both ends are in
+  abbrev pub In : Type 0
+  In = (a < net .node (net .source) .p1 .0) × (a < net .node (net .target) .p1 .0)
+
+  -- t has its capacity, and no arc into a node that is in raises a label above that of s
+  pub record Calm (d : ℕ → ℕ) : Type 0 where
+    -- a source that has a label is in
+    pub s-in : 0 < d (net .source) → a < net .node (net .source) .p1 .0
+    -- the target has its capacity
+    pub at-t : In → net .node (net .target) .p2 .0 ≤ d (net .target)
+    -- no arc raises a label above that of the source
+    pub by-arc : In → (k : Arc) → k ∈ net .arcs → a < net .node (k .to) .p1 .0
+        → min (net .node (k .from) .p2 .0) (min (net .arc (k .place) .p2 .0) (d (k .to))) ≤ max (d (k .from)) (d (net .source))
+
+-- ---- THE SEARCH'S STATE: what it is given, the chains of arcs, and the labels while they spread
 -- all that stays as it is during a search: arc bytes, each node's class 1 and class 2 capacity, the ends, the class sizes
 pub record Graph : Type 0 where
   -- two bytes an arc, from and to

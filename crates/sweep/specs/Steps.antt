@@ -1,4 +1,4 @@
--- The sweep: class 1 positions from the largest down, and what is collected on the way.
+-- STEPS: what proofs and the contracts between our crates speak of. Nobody has to believe these: no promise to a caller cites them.
 use mathlib.Core.Path.{_≡_}
 use mathlib.Core.Bool.{Bool, _&&_}
 use mathlib.Core.List.{List}
@@ -9,7 +9,7 @@ use Rattle.limits.specs.Limits.{arcCount}
 use Rattle.front.specs.Front.{holds, AllWithin}
 use Rattle.network.specs.Walk.{routePairs}
 use Rattle.relax.specs.declared.Step.{Step}
-use Rattle.relax.specs.State.{Graph, graphOf, graphNetwork, Laid, Chains, start}
+use Rattle.relax.specs.Steps.{Graph, graphOf, graphNetwork, Laid, Chains, start}
 
 -- where the network holds, and what of it lies below x failures of class 1
 abbrev pub whole : Graph → ℕ → ℕ → Bool

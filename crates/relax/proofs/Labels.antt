@@ -1,4 +1,4 @@
--- Labels: what a number at each node says of the walks from it to the target, while the first x class 1 positions are shut.
+-- Labels: a number at each node says where the network holds.
 use mathlib.Core.Path.{_≡_, refl, sym, subst}
 use mathlib.Core.Logic.{_↔_, ⊎-elim}
 use mathlib.Core.List.{List, [], _∷_}
@@ -12,6 +12,7 @@ use Rattle.front.proofs.Pairs.{holds-is}
 use Rattle.parts.specs.Study.{Arc}
 use Rattle.network.specs.Walk.{Network, Walk, pairOn, routePairs}
 use Rattle.network.proofs.Rounds.{pairs-hold}
+use Rattle.relax.specs.Steps.{Good, Walked, In, Calm}
 
 -- a walk is worth at most its first node
 pub pair-first : (net : Network) (v : ℕ) (ks : List Arc) → pairOn net v ks .p2 .0 ≤ net .node v .p2 .0
@@ -19,34 +20,12 @@ pair-first net v [] = omega arith
 pair-first net v (k ∷ ks) = omega arith
 
 module _ (net : Network) (a : ℕ) where
-  -- a walk from v to t that is worth y; v itself may still wait to enter
-  abbrev pub Good : ℕ → ℕ → Type 0
-  Good v y = (ks : List Arc) × Walk (net .arcs) v (net .target) ks × (min (suc a) (net .node v .p1 .0) ≤ pairOn net v ks .p1 .0) × (y ≤ pairOn net v ks .p2 .0)
-
-  -- each label above 0 has a walk
-  abbrev pub Walked : (ℕ → ℕ) → Type 0
-  Walked d = (v : ℕ) → 0 < d v → Good v (d v)
-
-  -- what is needed of an end, while both ends are in
-  abbrev pub In : Type 0
-  In = (a < net .node (net .source) .p1 .0) × (a < net .node (net .target) .p1 .0)
-
-  -- t has its capacity, and no arc into a node that is in raises a label above that of s
-  pub record Calm (d : ℕ → ℕ) : Type 0 where
-    -- a source that has a label is in
-    pub s-in : 0 < d (net .source) → a < net .node (net .source) .p1 .0
-    -- the target has its capacity
-    pub at-t : In → net .node (net .target) .p2 .0 ≤ d (net .target)
-    -- no arc raises a label above that of the source
-    pub by-arc : In → (k : Arc) → k ∈ net .arcs → a < net .node (k .to) .p1 .0
-        → min (net .node (k .from) .p2 .0) (min (net .arc (k .place) .p2 .0) (d (k .to))) ≤ max (d (k .from)) (d (net .source))
-
   walk-in : (v : ℕ) (ks : List Arc) → Walk (net .arcs) v (net .target) ks → a < pairOn net v ks .p1 .0 → (a < net .node v .p1 .0) × (a < net .node (net .target) .p1 .0)
   walk-in v [] w h = (h, subst (λ u. a < net .node u .p1 .0) w h)
   walk-in v (k ∷ ks) w h = (omega arith, walk-in (k .to) ks (w .2) (omega arith) .1)
 
-  module _ (d : ℕ → ℕ) (so : Walked d) (c : Calm d) where
-    calm-high : In → (v : ℕ) (ks : List Arc) → Walk (net .arcs) v (net .target) ks → a < pairOn net v ks .p1 .0 → pairOn net v ks .p2 .0 ≤ max (d v) (d (net .source))
+  module _ (d : ℕ → ℕ) (so : Walked net a d) (c : Calm net a d) where
+    calm-high : In net a → (v : ℕ) (ks : List Arc) → Walk (net .arcs) v (net .target) ks → a < pairOn net v ks .p1 .0 → pairOn net v ks .p2 .0 ≤ max (d v) (d (net .source))
     calm-high i v [] w h = omega (arith, subst (λ u. net .node u .p2 .0 ≤ d u) (sym w) (c .at-t i))
     calm-high i v (k ∷ ks) w h =
         let by : min (net .node v .p2 .0) (min (net .arc (k .place) .p2 .0) (d (k .to))) ≤ max (d v) (d (net .source)) =
@@ -64,16 +43,16 @@ module _ (net : Network) (a : ℕ) where
           pairs-hold net a b .1 (j .0, j .1, holds-is (pairOn net (net .source) (j .0)) a b .1 (omega (arith, c .s-in (omega arith)), omega arith)),
     )
 
-  module _ (d e : ℕ → ℕ) (so : Walked d) where
-    held-at : (u : ℕ) → ((v : ℕ) → (v ≡ u → ⊥) → e v ≡ d v) → Good u (e u) → Walked e
+  module _ (d e : ℕ → ℕ) (so : Walked net a d) where
+    held-at : (u : ℕ) → ((v : ℕ) → (v ≡ u → ⊥) → e v ≡ d v) → Good net a u (e u) → Walked net a e
     held-at u other w v h =
-        ⊎-elim (λ i. subst (λ x. Good x (e x)) (sym i) w) (λ n. let q = other v n in let r = so v (omega arith) in (r .0, r .1, r .2, omega arith)) (equal v u)
+        ⊎-elim (λ i. subst (λ x. Good net a x (e x)) (sym i) w) (λ n. let q = other v n in let r = so v (omega arith) in (r .0, r .1, r .2, omega arith)) (equal v u)
 
-    pub held-t : ((v : ℕ) → (v ≡ net .target → ⊥) → e v ≡ d v) → e (net .target) ≤ net .node (net .target) .p2 .0 → Walked e
+    pub held-t : ((v : ℕ) → (v ≡ net .target → ⊥) → e v ≡ d v) → e (net .target) ≤ net .node (net .target) .p2 .0 → Walked net a e
     held-t other k = held-at (net .target) other ([], refl, omega arith, k)
 
     pub held-raise : (k : Arc) → k ∈ net .arcs → ((v : ℕ) → (v ≡ k .from → ⊥) → e v ≡ d v) → a < net .node (k .to) .p1 .0 → a < net .arc (k .place) .p1 .0
-        → 0 < d (k .to) → e (k .from) ≤ min (net .node (k .from) .p2 .0) (min (net .arc (k .place) .p2 .0) (d (k .to))) → Walked e
+        → 0 < d (k .to) → e (k .from) ≤ min (net .node (k .from) .p2 .0) (min (net .arc (k .place) .p2 .0) (d (k .to))) → Walked net a e
     held-raise k m other h i p y = let r = so (k .to) p in held-at (k .from) other (k ∷ r .0, (m, refl, r .1), omega arith, omega arith)
 
 -- one failure fewer
