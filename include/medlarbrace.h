@@ -2,7 +2,8 @@
  * Medlarbrace: fronts, tallies and reliability of a network whose stations are of two classes and
  * fail in given orders. docs/USING.md walks through a study and explains the terms.
  *
- * Every call returns 0, or the number of a refusal, the lowest that applies (the list is below).
+ * Every call returns 0, or the number of a refusal: the first that applies, in the order in which the
+ * call lists its numbers (what they mean is below).
  * A refused call has written nothing. A call that succeeds writes what its comment says: bytes and
  * words of a slice past that stay as they were.
  *

@@ -1,3 +1,13 @@
+-- HOW THE SEARCH COMES TO A ROUND'S FRONT: from the study to what the code walks, and the lemma that makes each step
+--   the study, round r        where it holds, told by direct removal: `RoundHolds` (Round.antt)
+--     | `front-removal`, `front-routes`   the network's front holds there, and is the undominated pairs of its routes (proofs/Rounds.antt)
+--   `roundNetwork`            a capacity for each node, by its class and its position (Round.antt)
+--     | `round-pairs`         the same pairs by the orders alone (search/proofs/Rounds.antt)
+--   `orderNetwork`            a node that stands in neither order is past the last of both (search/specs/Steps.antt)
+--     | `pairs-are`           the same pairs from arrays of positions (search/proofs/Rounds.antt)
+--   `graphNetwork`            of the `Graph` that the search walks: arc bytes and two arrays (relax/specs/Steps.antt)
+--     | `at-rest`, `all-collected`        labels say where it holds, the sweep collects its front (labels, sweep/proofs)
+--   the record                `searchBytes` (search/specs/Search.antt)
 -- Walks and routes (document 01, "Positions, routes and the search"): chains of arcs, the pair of a route, and all routes by enumeration.
 use mathlib.Core.Path.{_≡_}
 use mathlib.Core.Bool.{_&&_, cond}

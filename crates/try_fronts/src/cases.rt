@@ -1,7 +1,7 @@
 // Generated records: good ones of all sizes, and damaged ones.
-use trial::byte;
-use trial::pick;
-use trial::poke;
+use test_support::byte;
+use test_support::pick;
+use test_support::poke;
 ghost use Prim.Native.Nat.{_≤_, _<_};
 
 // A class size: small as a rule, at times any, and 64 now and then.

@@ -5,7 +5,7 @@ mod plain;
 
 use answer::Written;
 use libc::STDOUT_FILENO;
-use trial::line;
+use test_support::line;
 
 // What a run has seen.
 struct Counts {
@@ -64,9 +64,9 @@ fn held(kind: u8, left: &[u8], right: &[u8], room: usize) -> u64 {
     }
     // A refusal leaves the slice as it was.
     if got < 1000 {
-        return if_so(trial::equal(&out, &untouched), got);
+        return if_so(test_support::equal(&out, &untouched), got);
     }
-    if_so(trial::equal(&out, &want), got)
+    if_so(test_support::equal(&out, &want), got)
 }
 
 // The case of a seed.
@@ -115,7 +115,7 @@ fn run(kind: u8) -> Counts {
     };
     let mut i: u64 = 0;
     while i < 4000 {
-        c = counted(c, one(trial::seed(i), kind));
+        c = counted(c, one(test_support::seed(i), kind));
         i += 1;
     }
     c

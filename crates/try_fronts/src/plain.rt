@@ -1,6 +1,6 @@
 // The plain check: a record's cells one by one, and the corners of what holds.
-use trial::byte;
-use trial::poke;
+use test_support::byte;
+use test_support::poke;
 ghost use Prim.Native.Nat.{_≤_, _<_};
 
 // Whether some pair of the bytes is above a in p1 and above b in p2.

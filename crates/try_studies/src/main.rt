@@ -6,9 +6,9 @@ use answer::Header;
 use answer::Opened;
 use answer::Written;
 use libc::STDOUT_FILENO;
-use plain_files::Judged;
-use trial::equal;
-use trial::line;
+use test_files::Judged;
+use test_support::equal;
+use test_support::line;
 ghost use Prim.Native.Nat.{_≤_};
 ghost use lib.ListN.{length};
 
@@ -58,19 +58,18 @@ fn told(file: &[u8], h: Header) -> bool
     requires { ⌜ length (now file) ≤ 10000 ⌝ }
 {
     let at = if file.len() < 32 { 0 } else { file.len() - 32 };
-    let dn = plain_files::trailer(file, 5);
-    let nodes = plain_files::piece(
+    let dn = test_files::trailer(file, 5);
+    let nodes = test_files::piece(
         file,
         if at < dn { 0 } else { at - dn },
-        plain_files::trailer(file, 0),
+        test_files::trailer(file, 0),
     );
-    let counts = (h.nodes == plain_files::trailer(file, 0))
-        & (h.arcs == plain_files::trailer(file, 1))
-        & (h.rounds == plain_files::trailer(file, 2));
-    let ends = (h.source == plain_files::trailer(file, 3))
-        & (h.target == plain_files::trailer(file, 4));
-    let sizes = (h.n1 == plain_files::of_class(nodes, 1))
-        & (h.n2 == plain_files::of_class(nodes, 2));
+    let counts = (h.nodes == test_files::trailer(file, 0))
+        & (h.arcs == test_files::trailer(file, 1))
+        & (h.rounds == test_files::trailer(file, 2));
+    let ends = (h.source == test_files::trailer(file, 3))
+        & (h.target == test_files::trailer(file, 4));
+    let sizes = (h.n1 == test_files::of_class(nodes, 1)) & (h.n2 == test_files::of_class(nodes, 2));
     counts & ends & sizes
 }
 
@@ -78,7 +77,7 @@ fn told(file: &[u8], h: Header) -> bool
 fn try_open(file: &[u8], counts: &mut [u64])
     requires { ⌜ length (now file) ≤ 10000 ⌝ }
 {
-    let want = plain_files::opening(file);
+    let want = test_files::opening(file);
     let got = study::open_study(file);
     let mut right = opened(got) == want.first;
     if let Opened::Study(h) = got {
@@ -91,12 +90,12 @@ fn try_open(file: &[u8], counts: &mut [u64])
 fn try_round(file: &[u8], round: usize, counts: &mut [u64])
     requires { ⌜ length (now file) ≤ 10000 ⌝ }
 {
-    let want = plain_files::check(file, round);
+    let want = test_files::check(file, round);
     let first = want.first;
     let got = done(study::check_round(file, round));
     let part = study::round_bytes(file, round);
     let bytes = if first == 0 {
-        equal(part, plain_files::round(file, round))
+        equal(part, test_files::round(file, round))
     } else {
         part.len() == 0
     };
@@ -135,8 +134,8 @@ fn try_write(
     let untouched = [165u8; 8192];
     let mut out = [165u8; 8192];
     let mut want = [165u8; 8192];
-    let judgement = plain_files::given(nodes, arcs, rounds, s, t, total);
-    let end = plain_files::file(nodes, arcs, rounds, s, t, total, &mut want, 0);
+    let judgement = test_files::given(nodes, arcs, rounds, s, t, total);
+    let end = test_files::file(nodes, arcs, rounds, s, t, total, &mut want, 0);
     // One byte short, exactly long enough, or longer.
     let room = end + short - 1;
     let j = if (judgement.first == 0) & (room < end) {
@@ -163,7 +162,7 @@ fn try_file(file: &[u8], seed: u64, total: usize, opens: &mut [u64], looks: &mut
 {
     try_open(file, opens);
     try_round(file, 0, looks);
-    try_round(file, made_files::some(seed, 52, total), looks);
+    try_round(file, test_studies::some(seed, 52, total), looks);
     try_round(file, total, looks);
     try_round(file, 18446744073709551615, looks);
 }
@@ -181,8 +180,8 @@ fn try_parts(
 )
     requires { ⌜ (length (now nodes) ≤ 200) × (length (now arcs) ≤ 2100) × (length (now rounds) ≤ 4100) × (total ≤ 200000) ⌝ }
 {
-    let s = made_files::end(seed, 0);
-    let t = made_files::end(seed, 1);
+    let s = test_studies::end(seed, 0);
+    let t = test_studies::end(seed, 1);
     try_write(
         nodes,
         arcs,
@@ -190,13 +189,13 @@ fn try_parts(
         s,
         t,
         total,
-        made_files::some(seed, 50, 4),
+        test_studies::some(seed, 50, 4),
         writes,
     );
     let mut file = [0u8; 8192];
-    let front = made_files::some(seed, 51, 4);
-    let end = plain_files::file(nodes, arcs, rounds, s, t, total, &mut file, front);
-    let length = made_files::damage(seed, &mut file, end);
+    let front = test_studies::some(seed, 51, 4);
+    let end = test_files::file(nodes, arcs, rounds, s, t, total, &mut file, front);
+    let length = test_studies::damage(seed, &mut file, end);
     try_file(&file[0..length], seed, total, opens, looks);
 }
 
@@ -205,10 +204,10 @@ fn one(seed: u64, writes: &mut [u64], opens: &mut [u64], looks: &mut [u64]) {
     let mut nodes = [0u8; 256];
     let mut arcs = [0u8; 2200];
     let mut rounds = [0u8; 10240];
-    let n = made_files::nodes(seed, &mut nodes);
-    let a = made_files::arcs(seed, n, &mut arcs);
-    let total = made_files::total(seed);
-    let r = made_files::rounds(seed, &nodes[0..n], total, &mut rounds);
+    let n = test_studies::nodes(seed, &mut nodes);
+    let a = test_studies::arcs(seed, n, &mut arcs);
+    let total = test_studies::total(seed);
+    let r = test_studies::rounds(seed, &nodes[0..n], total, &mut rounds);
     try_parts(
         seed,
         &nodes[0..n],
@@ -270,7 +269,7 @@ fn edge(label: &[u8], n: usize, class: u8, k: usize, a: usize, m: usize)
         m,
         &mut out,
     ));
-    let end = plain_files::file(
+    let end = test_files::file(
         &nodes[0..n],
         &arcs[0..2 * a],
         &none[0..0],
@@ -338,7 +337,7 @@ fn edges() {
 fn run(writes: &mut [u64], opens: &mut [u64], looks: &mut [u64]) {
     let mut i: u64 = 0;
     while i < 3000 {
-        one(trial::seed(i), writes, opens, looks);
+        one(test_support::seed(i), writes, opens, looks);
         i += 1;
     }
 }

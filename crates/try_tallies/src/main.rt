@@ -6,13 +6,13 @@ use answer::Done;
 use answer::Rate;
 use answer::Rated;
 use libc::STDOUT_FILENO;
-use plain_tallies::HEAD;
-use plain_tallies::PAST;
-use trial::line;
-use trial::pick;
-use trial::poke;
-use trial::put;
-use trial::word;
+use test_support::line;
+use test_support::pick;
+use test_support::poke;
+use test_support::put;
+use test_support::word;
+use test_tallies::HEAD;
+use test_tallies::PAST;
 ghost use Prim.Native.Nat.{_≤_, _<_};
 ghost use lib.ListN.{length};
 
@@ -113,7 +113,7 @@ fn cells_of(n1: u64, n2: u64) -> usize
     if n2 > 64 {
         return 0;
     }
-    plain_tallies::cells(n1 as usize, n2 as usize)
+    test_tallies::cells(n1 as usize, n2 as usize)
 }
 
 fn new_number(n: usize, room: usize) -> u64
@@ -134,7 +134,7 @@ fn try_new(n1: u64, n2: u64, words: &mut [u32], counts: &mut [u64])
     let due = new_number(n, words.len());
     fresh(&mut want, n1, n2, n, due == 0);
     let got = number(tally::new(n1 as u32, n2 as u32, words));
-    let alike = plain_tallies::begins(&want, words);
+    let alike = test_tallies::begins(&want, words);
     judge(counts, 0, got, (got == due) & alike);
 }
 
@@ -175,10 +175,10 @@ fn try_add(record: &[u8], words: &mut [u32], counts: &mut [u64])
 {
     let mut want = [0u32; 4240];
     copy(words, &mut want);
-    let due = plain_tallies::add_number(record, words);
-    plain_tallies::add(record, &mut want, due == 0);
+    let due = test_tallies::add_number(record, words);
+    test_tallies::add(record, &mut want, due == 0);
     let got = number(tally::add(record, words));
-    let alike = plain_tallies::begins(&want, words);
+    let alike = test_tallies::begins(&want, words);
     judge(counts, 28, got, (got == due) & alike);
 }
 
@@ -250,7 +250,7 @@ fn rate_number(t: &[u32], p1: u64, p2: u64) -> u64 {
     if (p1 > 1000000) | (p2 > 1000000) {
         return 14;
     }
-    let s = plain_tallies::state(t);
+    let s = test_tallies::state(t);
     if s != 0 {
         return s;
     }
@@ -263,9 +263,9 @@ fn sum_is(t: &[u32], p1: u64, p2: u64, s: u64) -> bool
 {
     let mut u = [0u32; 66];
     let mut v = [0u32; 66];
-    plain_tallies::weights(p1, plain_tallies::size(word(t, 0)), &mut u);
-    plain_tallies::weights(p2, plain_tallies::size(word(t, 1)), &mut v);
-    plain_tallies::sum(t, &u, &v) == s % 999999937
+    test_tallies::weights(p1, test_tallies::size(word(t, 0)), &mut u);
+    test_tallies::weights(p2, test_tallies::size(word(t, 1)), &mut v);
+    test_tallies::sum(t, &u, &v) == s % 999999937
 }
 
 fn rate_is(k: Rate, t: &[u32], p1: u64, p2: u64) -> bool {
@@ -323,7 +323,7 @@ fn expect_weights(p: u64, n: u64, want: &mut [u32], due: bool) {
     }
     let mut w = [0u32; 70];
     let k = n as usize;
-    plain_tallies::weights(p, k, &mut w);
+    test_tallies::weights(p, k, &mut w);
     copy(&w[0..k + 1], want)
 }
 
@@ -334,7 +334,7 @@ fn weigh(n: u64, p: u64, out: &mut [u32], counts: &mut [u64])
     let due = weights_number(n, p, out.len() as u64);
     expect_weights(p, n, &mut want, due == 0);
     let got = number(weights::weights(n as u32, p as u32, out));
-    let alike = plain_tallies::begins(&want, out);
+    let alike = test_tallies::begins(&want, out);
     judge(counts, 84, got, (got == due) & alike);
 }
 
@@ -485,7 +485,7 @@ fn in_slice(seed: u64, s: Size, words: &mut [u32], counts: &mut [u64])
 }
 
 fn try_tally(i: u64, counts: &mut [u64]) {
-    let seed = trial::seed(i);
+    let seed = test_support::seed(i);
     let s = size_of(seed, i);
     let mut words = [0u32; 4240];
     junk(seed, &mut words);
