@@ -25,7 +25,7 @@ use Rattle.demands.proofs.Leaves as leave
 use Rattle.demands.proofs.Made as make
 use Rattle.kinds.proofs.Ends as end
 use Rattle.demands.proofs.Keeps as keep
-use Rattle.demands.proofs.Outside.{open-same, check-same, lookup-same, search-same, search-out-same}
+use Rattle.demands.proofs.Outside.{open-same, check-same, lookup-same, search-same, search-out-same, report-same}
 
 -- ---- lookup
 lookup : (c : call.LookupCall) → let f = call.lookupFile c in let n = roundSize (nodesOf f) in
@@ -77,6 +77,7 @@ demand1 =
       check-ignores = λ c d s e. c .kept ∙ check-same s e ∙ sym (d .kept);
       lookup-ignores = λ c d s e. c .kept .0 ∙ lookup-same s e ∙ sym (d .kept .0);
       search-ignores = λ c d s e l. (c .kept .0 ∙ search-same s e (ap length l) ∙ sym (d .kept .0), c .kept .1 ∙ search-out-same s e l ∙ sym (d .kept .1));
+      report-ignores = λ f g s. report-same s;
       apart = refused-apart;
       search-leaves = leave.search-leaves;
       row-leaves = leave.row-leaves;

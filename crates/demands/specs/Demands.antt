@@ -2,7 +2,7 @@
 -- Proofs: proofs/ (demand1, demand2, demand3; instances on the sample ring: Ring.antt). Read first: answer/specs/Outcome.antt (answers and their numbers),
 -- runs/specs (what a call is, and that it ends), kinds/specs/Kinds.antt (the calls, their arguments by name), Terms.antt, plan/specs (plans, and calls one
 -- after another with refused ones in between), survival/specs (tallies). Then what a line cites: the tests of a call (specs/ of study, parts, search,
--- compose, tally, soundness, weights, reliability, writer), files (sections), rounds (network), E and D (chance).
+-- compose, tally, soundness, weights, reliability, writer), files (sections), rounds (network), E and D (chance), the report (lines).
 use mathlib.Core.Path.{_≡_}
 use mathlib.Core.Logic.{_↔_}
 use mathlib.Core.List.{List, [], _∷_}
@@ -29,6 +29,7 @@ use Rattle.weights.specs.Calls.{weightsTests}
 use Rattle.soundness.specs.Tally.{tallySize1, tallySize2, rounds, cell, Sound}
 use Rattle.tally.specs.Calls.{newTests, addTests}
 use Rattle.reliability.specs.Calls.{tallyS, rateTests}
+use Rattle.lines.specs.Report.{reportLines}
 use Rattle.plan.specs.Plan.{Plan, searched, series, parallel, PlanHolds, PlanSized}
 use Rattle.plan.specs.Calls.{Searched, Built, SameFront}
 use Rattle.survival.specs.Calls.{Tallied, AllSearched, Rating}
@@ -83,6 +84,8 @@ pub record Demand1 : Type 0 where
       → call.lookupResult c ≡ call.lookupResult d
   pub search-ignores : (c d : call.SearchCall) → SameSections (call.searchFile c) (call.searchFile d) → call.searchRound c ≡ call.searchRound d
       → call.searchLent c ≡ call.searchLent d → (call.searchResult c ≡ call.searchResult d) × (call.searchLeft c ≡ call.searchLeft d)
+  -- and in the report: its lines, of which its text is made
+  pub report-ignores : (f g : List ℕ) → SameSections f g → reportLines f ≡ reportLines g
   -- 01: "A refusal returns its number alone, as an answer told apart from every success"
   pub apart : (n : ℕ) (v : List ℕ) → refused n ≡ success v → ⊥
   -- "and changes no lent memory": a refused call leaves the slice that it was lent as it was; a successful one leaves what is past what it wrote

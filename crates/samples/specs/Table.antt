@@ -1,14 +1,14 @@
 -- Document 01's table of cases ("The sample ring and its neighbours"), by evaluation of the definitions that the contracts cite.
 use mathlib.Core.Path.{_≡_, refl}
 use mathlib.Core.Bool.{true, false}
-use mathlib.Core.List.{List, [], _∷_}
+use mathlib.Core.List.{List, [], _∷_, _++_}
 use Prim.Native.Nat.{ℕ, _*_}
 use lib.ListN.{replicate}
 use Rattle.answer.specs.Outcome.{success, refused}
 use Rattle.slices.specs.Bytes.{wordAt}
 use Rattle.sections.specs.File.{trailer}
 use Rattle.study.specs.Calls.{badOrders, openAnswer, checkAnswer, lookupPart}
-use Rattle.writer.specs.Writer.{Given, given, studyBytes, writeAnswer}
+use Rattle.writer.specs.Writer.{Given, given, studyBytes, writeAnswer, writeOut}
 use Rattle.record.specs.Record.{isRecord, recordHolds}
 use Rattle.search.specs.Search.{searchAnswer, searchOut}
 use Rattle.chance.specs.Chance.{sumE, scaleD}
@@ -75,6 +75,8 @@ eight = 9 ∷ 9 ∷ 9 ∷ 9 ∷ 9 ∷ 9 ∷ 9 ∷ 9 ∷ []
 pub record Table : Type 0 where
   -- R1 written: 56 bytes, dN 24, dA 18, dM 4
   pub r1-answer : writeAnswer (ringWith (3 ∷ 2 ∷ 5 ∷ 4 ∷ [])) 56 ≡ success (56 ∷ [])
+  -- in a slice of 60 the four bytes behind them stay
+  pub r1-out : writeOut (ringWith (3 ∷ 2 ∷ 5 ∷ 4 ∷ [])) (replicate 60 9) ≡ ringFile ++ 9 ∷ 9 ∷ 9 ∷ 9 ∷ []
   pub r1-bytes : studyBytes (ringWith (3 ∷ 2 ∷ 5 ∷ 4 ∷ [])) ≡ ringFile
   pub r1-dn : trailer ringFile .dn ≡ 24
   pub r1-da : trailer ringFile .da ≡ 18
@@ -85,6 +87,7 @@ pub record Table : Type 0 where
   pub r1-orders : badOrders ringFile 0 ≡ false
   pub r1-ten : checkAnswer ringFile 1 ≡ refused 10
   pub r1-short : writeAnswer (ringWith (3 ∷ 2 ∷ 5 ∷ 4 ∷ [])) 55 ≡ refused 15
+  pub r1-stays : writeOut (ringWith (3 ∷ 2 ∷ 5 ∷ 4 ∷ [])) (replicate 55 9) ≡ replicate 55 9
   -- R2 front record: 2 2 3 3 1 2 2 1 3. It holds at (2, 0), not at (2, 1)
   pub r2-answer : searchAnswer ringFile 0 10 ≡ success (9 ∷ [])
   pub r2-out : searchOut ringFile 0 ten ≡ 2 ∷ 2 ∷ 3 ∷ 3 ∷ 1 ∷ 2 ∷ 2 ∷ 1 ∷ 3 ∷ 9 ∷ []
@@ -164,6 +167,7 @@ unfolding wordAt decimal
 table =
     record {
       r1-answer = refl;
+      r1-out = refl;
       r1-bytes = refl;
       r1-dn = refl;
       r1-da = refl;
@@ -173,6 +177,7 @@ table =
       r1-orders = refl;
       r1-ten = refl;
       r1-short = refl;
+      r1-stays = refl;
       r2-answer = refl;
       r2-out = refl;
       r2-ten = refl;
