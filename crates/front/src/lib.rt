@@ -8,7 +8,7 @@ mod class2;
 pub use class1::Pos1;
 pub use class2::Pos2;
 ghost use mathlib.Core.Path.{_≡_};
-ghost use Rattle.front.specs.Pair.{pairOf, minPair, covers, same, dominates, holdsAt};
+ghost use Rattle.front.specs.Pair.{minPair, covers, same, dominates, holdsAt};
 
 // The least position of each class on a route.
 pub struct Pair {
@@ -17,15 +17,6 @@ pub struct Pair {
 }
 
 impl Pair {
-    pub fn new(p1: u8, p2: u8) -> Self
-        ensures { λ r. ⌜ r ≡ pairOf p1 p2 ⌝ }
-    {
-        Pair {
-            p1: Pos1(p1),
-            p2: Pos2(p2),
-        }
-    }
-
     // The smaller position of each class.
     pub fn min(self, other: Pair) -> Pair
         ensures { λ r. ⌜ r ≡ minPair self other ⌝ }
@@ -46,7 +37,7 @@ impl Pair {
     pub fn same(self, other: Pair) -> bool
         ensures { λ r. ⌜ r ≡ same self other ⌝ }
     {
-        (self.p1.0 == other.p1.0) & (self.p2.0 == other.p2.0)
+        self.p1.same(other.p1) & self.p2.same(other.p2)
     }
 
     // Covers the other, and differs from it.
@@ -60,6 +51,6 @@ impl Pair {
     pub fn holds(self, a: u8, b: u8) -> bool
         ensures { λ r. ⌜ r ≡ holdsAt self a b ⌝ }
     {
-        (a < self.p1.0) & (b < self.p2.0)
+        self.p1.outlasts(a) & self.p2.outlasts(b)
     }
 }

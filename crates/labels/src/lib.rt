@@ -44,19 +44,19 @@ fn drain(
 }
 
 // The largest level that waits between floor and level, or 0.
-fn next_level(wait: &[u8], level: Pos2, floor: Pos2) -> u8
+fn next_level(wait: &[u8], level: Pos2, floor: Pos2) -> Pos2
     requires { ⌜ (0 < level .0) × (level .0 ≤ maxPosition) × (maxPosition + 1 ≤ length (now wait)) ⌝ }
-    ensures { λ r. ⌜ NextLevel (now (wait .entry)) (level .0) (floor .0) r ⌝ }
+    ensures { λ r. ⌜ NextLevel (now (wait .entry)) (level .0) (floor .0) (r .0) ⌝ }
 {
     let done = level.0;
     let mut m = done - 1;
-    while !floor.at_least(Pos2(m)) {
+    while Pos2(m).above(floor) {
         if wait[wide(m)] != 0 {
-            return m;
+            return Pos2(m);
         }
         m -= 1;
     }
-    0
+    Pos2(0)
 }
 
 // The label of a node carried on to all nodes that it raises above the label of the source, the
@@ -83,17 +83,16 @@ pub fn flood(
 {
     let mut level = begin.level;
     let mut node = begin.node;
-    while 0 < level.0 {
+    loop {
         let at = step_to(begin, begin.x, level, node, 0);
         drain(arcs, entry, cap, first, more, at, label, stack, wait);
         let s = begin.source;
-        let m = next_level(wait, level, Pos2(label[s]));
-        if m == 0 {
+        level = next_level(wait, level, Pos2(label[s]));
+        let p = wide(level.0);
+        if p == 0 {
             return;
         }
-        let p = wide(m);
         node = wait[p] - 1;
         wait[p] = 0;
-        level = Pos2(m);
     }
 }

@@ -2,6 +2,8 @@
 mod valid;
 
 use front::Pair;
+use front::Pos1;
+use front::Pos2;
 use slices::byte;
 use slices::wide;
 pub use valid::is_record;
@@ -32,7 +34,10 @@ pub fn pair_at(bytes: &[u8], i: u8) -> Pair
     ensures { λ r. ⌜ r ≡ pairAt (now (bytes .entry)) i ⌝ }
 {
     let at = 3 + 2 * wide(i);
-    Pair::new(byte(bytes, at), byte(bytes, at + 1))
+    Pair {
+        p1: Pos1(byte(bytes, at)),
+        p2: Pos2(byte(bytes, at + 1)),
+    }
 }
 
 // Whether the record holds at (a, b).
@@ -44,7 +49,11 @@ pub fn holds(bytes: &[u8], a: u8, b: u8) -> bool
         if bytes.len() - at == 1 {
             return false;
         }
-        if Pair::new(bytes[at], bytes[at + 1]).holds(a, b) {
+        let p = Pair {
+            p1: Pos1(bytes[at]),
+            p2: Pos2(bytes[at + 1]),
+        };
+        if p.holds(a, b) {
             return true;
         }
         at += 2;

@@ -2,6 +2,8 @@
 use crate::pair_at;
 use crate::read_head;
 use front::Pair;
+use front::Pos1;
+use front::Pos2;
 use limits::MAX_CLASS;
 use slices::wide;
 ghost use mathlib.Core.Path.{_≡_};
@@ -47,7 +49,10 @@ fn pairs_fit(bytes: &[u8], n1: u8, n2: u8) -> bool
     ensures { λ r. ⌜ r ≡ (all (inRange n1 n2) (listed (now (bytes .entry))) && falling (listed (now (bytes .entry)))) ⌝ }
 {
     let k = read_head(bytes).k;
-    let mut last = Pair::new(n1 + 2, 0);
+    let mut last = Pair {
+        p1: Pos1(n1 + 2),
+        p2: Pos2(0),
+    };
     let mut i: u8 = 0;
     while i < k {
         let p = pair_at(bytes, i);
@@ -65,7 +70,9 @@ fn fits(n1: u8, n2: u8, last: Pair, p: Pair) -> bool
     requires { ⌜ (n1 ≤ maxClass) × (n2 ≤ maxClass) ⌝ }
     ensures { λ r. ⌜ r ≡ (inRange n1 n2 p && follows last p) ⌝ }
 {
-    let x = p.p1.0;
-    let y = p.p2.0;
-    ((1 <= x) & (x <= n1 + 1) & ((1 <= y) & (y <= n2 + 1))) & ((x < last.p1.0) & (last.p2.0 < y))
+    let x = p.p1;
+    let y = p.p2;
+    let in1 = x.at_least(Pos1(1)) & Pos1(n1 + 1).at_least(x);
+    let in2 = y.at_least(Pos2(1)) & Pos2(n2 + 1).at_least(y);
+    (in1 & in2) & (last.p1.above(x) & y.above(last.p2))
 }

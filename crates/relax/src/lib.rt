@@ -94,11 +94,11 @@ pub fn spread(
             continue;
         }
         label[u] = c.0;
-        if !c.at_least(at.level) {
+        if at.level.above(c) {
             wait[wide(c.0)] = from + 1;
             continue;
         }
-        if !Pos1(entry[u]).at_least(at.x) {
+        if at.x.above(Pos1(entry[u])) {
             continue;
         }
         stack[top] = from;

@@ -32,19 +32,19 @@ fn collect(found: &mut [u8; LONGEST], p: Pair, last: Pos2)
 }
 
 // The next node to enter: the largest place up to z whose node has a label above `last`, or 0.
-fn next_in(order: &[u8], label: &[u8], z: u8, last: Pos2) -> u8
-    requires { ⌜ (z ≤ length (now order)) × ((k : ℕ) → k < z → getD (now order) k 0 < length (now label)) ⌝ }
-    ensures { λ r. ⌜ NextIn (now (order .entry)) (now (label .entry)) z (last .0) r ⌝ }
+fn next_in(order: &[u8], label: &[u8], z: Pos1, last: Pos2) -> Pos1
+    requires { ⌜ (z .0 ≤ length (now order)) × ((k : ℕ) → k < z .0 → getD (now order) k 0 < length (now label)) ⌝ }
+    ensures { λ r. ⌜ NextIn (now (order .entry)) (now (label .entry)) (z .0) (last .0) (r .0) ⌝ }
 {
-    let mut r = z;
+    let mut r = z.0;
     while 0 < r {
         let v = wide(order[wide(r) - 1]);
-        if !last.at_least(Pos2(label[v])) {
-            return r;
+        if Pos2(label[v]).above(last) {
+            return Pos1(r);
         }
         r -= 1;
     }
-    0
+    Pos1(0)
 }
 
 // The front record of a network, in a buffer. `begin` is the first step: x at the start, the target
@@ -68,11 +68,11 @@ pub fn sweep(
     let mut found = buffer::empty(begin.n1, begin.n2);
     let t = wide(begin.node);
     label[t] = cap[t];
-    let mut x = begin.x.0;
+    let mut x = begin.x;
     let mut node = begin.node;
     let mut last = Pos2(0);
     loop {
-        let at = relax::step_to(begin, Pos1(x), Pos2(label[wide(node)]), node, 0);
+        let at = relax::step_to(begin, x, Pos2(label[wide(node)]), node, 0);
         labels::flood(
             arcs,
             entry,
@@ -86,12 +86,13 @@ pub fn sweep(
         );
         let s = begin.source;
         let y = Pos2(label[s]);
-        collect(&mut found, Pair { p1: Pos1(x), p2: y }, last);
+        collect(&mut found, Pair { p1: x, p2: y }, last);
         last = y;
-        x = next_in(order, &label, x - 1, y);
-        if x == 0 {
+        x = next_in(order, &label, Pos1(x.0 - 1), y);
+        let place = wide(x.0);
+        if place == 0 {
             return found;
         }
-        node = order[wide(x) - 1];
+        node = order[place - 1];
     }
 }

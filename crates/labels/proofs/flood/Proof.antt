@@ -17,7 +17,7 @@ abbrev μ-loop : tie.MeasureT-loop
 μ-loop arcs entry cap first more begin label₀ stack₀ wait₀ level₀ node₀ label stack wait level node = level .0
 
 -- the node that a level names
-named : (c : tie.After-wide Inv-loop μ-loop) → 1 ≤ getD (c .before .before .before .before .before .before .before .before .before .before .before .drain .last .1 .1 .1 .1 .1 .1 .1 .1 .0) (c .before .before .next-level .result) 0
+named : (c : tie.Else1 Inv-loop μ-loop) → 1 ≤ getD (c .before .before .before .before .before .before .before .before .before .before .before .drain .last .1 .1 .1 .1 .1 .1 .1 .1 .0) (c .before .before .next-level .result .0) 0
 named c = pos-of-ne-zero (c .before .before .next-level .ensures .found (omega arith) .2)
 
 loop-holds : tie.Need-loop-holds Inv-loop μ-loop
@@ -36,14 +36,17 @@ step-to-requires c κs = search needs
 
 drain-requires : tie.Need-drain-requires Inv-loop μ-loop
 drain-requires c κs =
-    let l = c .before .before .before .before .before .before .loop .inv in
-    rw (c .before .before .before .step-to .ensures) (l .work, (l .chains, (c .before .before .before .before .before .before .before .before .before .before .before .before .before .before .before .before .pre .1 .0 .0, l .room)))
+    let l = c .before .before .before .before .loop .inv in
+    rw (c .before .before .before .step-to .ensures) (l .work, (l .chains, (c .before .before .before .before .before .before .before .before .before .before .before .before .before .before .pre .1 .0 .0, l .room)))
 
 slice-read-node : tie.Need-slice-read-node Inv-loop μ-loop
 slice-read-node c = search needs
 
 next-level-requires : tie.Need-next-level-requires Inv-loop μ-loop
 next-level-requires c κs = search needs
+
+wide-requires : tie.Need-wide-requires Inv-loop μ-loop
+wide-requires c κs = search needs
 
 same-length : tie.Need-same-length Inv-loop μ-loop
 same-length c = search needs
@@ -56,52 +59,37 @@ same-length-3 c = search needs
 
 returns : tie.Need-returns Inv-loop μ-loop
 returns c =
-    let l = c .before .before .before .before .before .before .before .before .before .before .before .before .before .before .before .before .before .loop .inv in
-    let e = c .before .before .before .before .before .before .before .before .before .before .before .before .before .before .step-to .ensures in
-    let d = c .before .before .before .before .before .before .before .before .before .before .drain .ensures in
-    (settle (rw e at (d .0)) (c .before .next-level .ensures) (omega arith) (l .begun), joined (l .lengths) (d .1))
-
-wide-requires : tie.Need-wide-requires Inv-loop μ-loop
-wide-requires c κs = search needs
+    let l = c .before .before .before .before .before .before .before .before .before .before .before .before .before .before .before .before .loop .inv in
+    let e = c .before .before .before .before .before .before .before .before .before .before .before .before .before .before .before .step-to .ensures in
+    let d = c .before .before .before .before .before .before .before .before .before .before .before .drain .ensures in
+    (settle (rw e at (d .0)) (c .before .before .next-level .ensures) (omega arith) (l .begun), joined (l .lengths) (d .1))
 
 slice-read-node-2 : tie.Need-slice-read-node-2 Inv-loop μ-loop
 slice-read-node-2 c =
     let w = rw (c .before .before .before .before .before .before .before .before .before .before .before .before .before .before .before .before .step-to .ensures) at (c .before .before .before .before .before .before .before .before .before .before .before .before .drain .ensures .0) in
-    omega (arith, w .long-wait, w .high, w .laid .small2, c .before .before .before .next-level .ensures .found (omega arith), c .before .wide .ensures)
+    omega (arith, w .long-wait, w .high, w .laid .small2, c .before .before .before .next-level .ensures .found (omega arith), c .before .before .wide .ensures)
 
 sub-node : tie.Need-sub-node Inv-loop μ-loop
 sub-node c =
     let w = c .before .before .before .before .before .before .before .before .before .before .before .before .drain .last .1 .1 .1 .1 .1 .1 .1 .1 .0 in
-    omega (arith, named (c .before), ap (λ k. getD w k 0) (c .before .wide .ensures .0))
+    omega (arith, named (c .before), ap (λ k. getD w k 0) (c .before .before .wide .ensures .0))
 
 slice-write-wait : tie.Need-slice-write-wait Inv-loop μ-loop
 slice-write-wait c =
     let w = rw (c .before .before .before .before .before .before .before .before .before .before .before .before .before .before .before .before .step-to .ensures) at (c .before .before .before .before .before .before .before .before .before .before .before .before .drain .ensures .0) in
-    omega (arith, w .long-wait, w .high, w .laid .small2, c .before .before .before .next-level .ensures .found (omega arith), c .before .wide .ensures)
+    omega (arith, w .long-wait, w .high, w .laid .small2, c .before .before .before .next-level .ensures .found (omega arith), c .before .before .wide .ensures)
 
 loop-less : tie.Need-loop-less Inv-loop μ-loop
 loop-less c = omega (arith, c .before .before .before .next-level .ensures .found (omega arith))
 
 loop-again : tie.Need-loop-again Inv-loop μ-loop
 loop-again c =
-    let l = c .before .before .before .before .before .before .before .before .before .before .before .before .before .before .before .before .before .before .before .loop .inv in
+    let l = c .before .before .before .before .before .before .before .before .before .before .before .before .before .before .before .before .before .loop .inv in
     let e = c .before .before .before .before .before .before .before .before .before .before .before .before .before .before .before .before .step-to .ensures in
     let d = c .before .before .before .before .before .before .before .before .before .before .before .before .drain .ensures in
     let w = c .before .before .before .before .before .before .before .before .before .before .before .before .drain .last .1 .1 .1 .1 .1 .1 .1 .1 .0 in
-    let is : getD w (c .before .before .before .next-level .result) 0 ≡ suc (getD w (c .before .wide .result) 0 - 1) = omega (arith, named (c .before), ap (λ k. getD w k 0) (c .before .wide .ensures .0)) in
-    flooded l (rw e at (d .0)) (d .1) (c .before .before .before .next-level .ensures) (omega arith) (c .before .wide .result) (c .before .wide .ensures .0) (getD w (c .before .wide .result) 0 - 1) is
-
-same-length-4 : tie.Need-same-length-4 Inv-loop μ-loop
-same-length-4 c = search needs
-
-same-length-5 : tie.Need-same-length-5 Inv-loop μ-loop
-same-length-5 c = search needs
-
-same-length-6 : tie.Need-same-length-6 Inv-loop μ-loop
-same-length-6 c = search needs
-
-returns-2 : tie.Need-returns-2 Inv-loop μ-loop
-returns-2 c = absurd (omega (arith, c .before .before .loop .inv .work .some))
+    let is : getD w (c .before .before .before .next-level .result .0) 0 ≡ suc (getD w (c .before .before .wide .result) 0 - 1) = omega (arith, named (c .before), ap (λ k. getD w k 0) (c .before .before .wide .ensures .0)) in
+    flooded l (rw e at (d .0)) (d .1) (c .before .before .before .next-level .ensures) (omega arith) (c .before .before .wide .result) (c .before .before .wide .ensures .0) (getD w (c .before .before .wide .result) 0 - 1) is
 
 pub flood-spec : {M : Type 1} → statement M
 flood-spec =
@@ -114,17 +102,13 @@ flood-spec =
     drain-requires
     slice-read-node
     next-level-requires
+    wide-requires
     same-length
     same-length-2
     same-length-3
     returns
-    wide-requires
     slice-read-node-2
     sub-node
     slice-write-wait
     loop-less
-    loop-again
-    same-length-4
-    same-length-5
-    same-length-6
-    returns-2)
+    loop-again)

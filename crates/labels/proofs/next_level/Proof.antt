@@ -4,7 +4,7 @@ use Prim.Native.Nat.{_≤_, _<_}
 use native.Mathlib.Omega.{arith}
 use lib.ListN.{getD}
 use borrow.Author.Needs.{needs}
-use borrow.Author.Tests.{leb-true, leb-false, not-true, not-false}
+use borrow.Author.Tests.{ltb-true, ltb-false}
 use Rattle.limits.specs.Limits.{maxPosition}
 use Rattle.labels.proofs.Drains.{Seeking, sought, sought-none, seek-on}
 use Rattle.labels.proofs.next_level.Statement.{statement}
@@ -18,7 +18,7 @@ abbrev μ-loop : tie.MeasureT-loop
 
 -- m is above the floor
 above : (c : tie.Then1 Inv-loop μ-loop) → c .before .before .before .before .args .floor .0 < c .before .before .loop .m
-above c = leb-false _ _ (sym (c .before .at-least .ensures) ∙ not-true _ (c .if1 .taken))
+above c = ltb-true _ _ (sym (c .before .above .ensures) ∙ c .if1 .taken)
 
 sub-m : tie.Need-sub-m Inv-loop μ-loop
 sub-m c = search needs
@@ -26,8 +26,8 @@ sub-m c = search needs
 loop-holds : tie.Need-loop-holds Inv-loop μ-loop
 loop-holds c = let p = c .before .pre in (record { low = omega (arith, p); none = λ c b k. absurd (omega (arith, p)); long = p .2 }, p .1)
 
-at-least-requires : tie.Need-at-least-requires Inv-loop μ-loop
-at-least-requires c κs = search needs
+above-requires : tie.Need-above-requires Inv-loop μ-loop
+above-requires c κs = search needs
 
 wide-requires : tie.Need-wide-requires Inv-loop μ-loop
 wide-requires c κs = search needs
@@ -53,7 +53,7 @@ loop-again c =
     (seek-on (l .0) (omega (arith, above (c .before .before .before))) (ap (λ n. getD (a .wait .now) n 0) (sym (c .before .before .wide .ensures .0)) ∙ c .if2 .left), l .1)
 
 returns-2 : tie.Need-returns-2 Inv-loop μ-loop
-returns-2 c = sought-none (c .before .before .loop .inv .0) (c .before .before .before .before .args .floor .0) (leb-true _ _ (sym (c .before .at-least .ensures) ∙ not-false _ (c .if1 .left)))
+returns-2 c = sought-none (c .before .before .loop .inv .0) (c .before .before .before .before .args .floor .0) (ltb-false _ _ (sym (c .before .above .ensures) ∙ c .if1 .left))
 
 pub next-level-spec : {M : Type 1} → statement M
 next-level-spec =
@@ -63,7 +63,7 @@ next-level-spec =
     μ-loop
     sub-m
     loop-holds
-    at-least-requires
+    above-requires
     wide-requires
     shared-slice-read-if2
     returns

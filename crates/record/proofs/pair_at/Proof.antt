@@ -25,23 +25,11 @@ add-byte c = search needs
 byte-requires-2 : tie.Need-byte-requires-2
 byte-requires-2 c κs = search needs
 
-new-requires : tie.Need-new-requires
-new-requires c κs = search needs
-
 returns : tie.Need-returns
 returns c =
-    let b = c .before .before .before .before .before .args .bytes .now in
-    c .new .ensures ∙ ap₂ pairOf (c .before .before .byte .ensures ∙ ap (λ n. getD b n 0) (omega arith)) (c .before .byte2 .ensures ∙ ap (λ n. getD b n 0) (omega arith))
+    let b = c .before .before .before .before .args .bytes .now in
+    ap₂ pairOf (c .before .byte .ensures ∙ ap (λ n. getD b n 0) (omega arith)) (c .byte2 .ensures ∙ ap (λ n. getD b n 0) (omega arith))
 
 pub pair-at-spec : {M : Type 1} → statement M
 pair-at-spec =
-    tie.close
-    (tie.spec
-    wide-requires
-    mul-at
-    add-at
-    byte-requires
-    add-byte
-    byte-requires-2
-    new-requires
-    returns)
+    tie.close (tie.spec wide-requires mul-at add-at byte-requires add-byte byte-requires-2 returns)

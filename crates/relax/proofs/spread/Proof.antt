@@ -3,7 +3,7 @@ use mathlib.Core.Path.{refl, sym, _∙_}
 use Prim.Native.Nat.{_-_, _≤_, _<_}
 use native.Mathlib.Omega.{arith}
 use lib.ListN.{getD}
-use borrow.Author.Tests.{leb-true, leb-false, not-true, not-false}
+use borrow.Author.Tests.{leb-true, leb-false, ltb-true, ltb-false}
 use borrow.Author.Needs.{needs}
 use Rattle.relax.specs.Steps.{graphOf}
 use Rattle.relax.proofs.Spreads.{Spreading, Turn, place, at-node, falls, node-in, level-in, passed, again-waits, again-shut, space, again-pushed, idle}
@@ -29,16 +29,16 @@ rise : (c : tie.Else1 Inv-loop μ-loop) → getD (c .before .before .before .bef
 rise c = leb-false _ _ (sym (c .before .at-least .ensures) ∙ c .if1 .left)
 
 below : (c : tie.Then2 Inv-loop μ-loop) → c .before .before .before .before .before .min .result .0 < c .before .before .before .before .before .before .before .before .before .before .before .before .before .before .before .before .before .before .before .before .before .before .before .before .args .at .level .0
-below c = leb-false _ _ (sym (c .before .at-least2 .ensures) ∙ not-true _ (c .if2 .taken))
+below c = ltb-true _ _ (sym (c .before .above .ensures) ∙ c .if2 .taken)
 
 at-level : (c : tie.Else2 Inv-loop μ-loop) → c .before .before .before .before .before .before .before .before .before .before .before .before .before .before .before .before .before .before .before .before .before .before .before .before .args .at .level .0 ≤ c .before .before .before .before .before .min .result .0
-at-level c = leb-true _ _ (sym (c .before .at-least2 .ensures) ∙ not-false _ (c .if2 .left))
+at-level c = ltb-false _ _ (sym (c .before .above .ensures) ∙ c .if2 .left)
 
 shut : (c : tie.Then3 Inv-loop μ-loop) → let a = c .before .before .before .before .before .before .before .before .before .before .before .before .before .before .before .before .before .before .before .before .before .before .before .before .before .before .before .args in getD (a .entry .now) (c .before .before .before .before .before .before .before .before .before .before .wide2 .result) 0 < a .at .x .0
-shut c = leb-false _ _ (sym (c .before .at-least3 .ensures) ∙ not-true _ (c .if3 .taken))
+shut c = ltb-true _ _ (sym (c .before .above2 .ensures) ∙ c .if3 .taken)
 
 entered : (c : tie.Else3 Inv-loop μ-loop) → let a = c .before .before .before .before .before .before .before .before .before .before .before .before .before .before .before .before .before .before .before .before .before .before .before .before .before .before .before .args in a .at .x .0 ≤ getD (a .entry .now) (c .before .before .before .before .before .before .before .before .before .before .wide2 .result) 0
-entered c = leb-true _ _ (sym (c .before .at-least3 .ensures) ∙ not-false _ (c .if3 .left))
+entered c = ltb-false _ _ (sym (c .before .above2 .ensures) ∙ c .if3 .left)
 
 wide-requires : tie.Need-wide-requires Inv-loop μ-loop
 wide-requires c κs = search needs
@@ -106,8 +106,8 @@ loop-again c = passed (turn (c .before .before .before)) (leb-true _ _ (sym (c .
 slice-write-label : tie.Need-slice-write-label Inv-loop μ-loop
 slice-write-label c = omega (arith, node-in (turn (c .before .before .before)))
 
-at-least-requires-2 : tie.Need-at-least-requires-2 Inv-loop μ-loop
-at-least-requires-2 c κs = search needs
+above-requires : tie.Need-above-requires Inv-loop μ-loop
+above-requires c κs = search needs
 
 add-wait : tie.Need-add-wait Inv-loop μ-loop
 add-wait c = omega (arith, node-in (turn (c .before .before .before .before .before)), c .before .before .before .before .before .before .before .wide2 .ensures)
@@ -127,8 +127,8 @@ loop-again-2 c = again-waits (turn (c .before .before .before .before .before .b
 shared-slice-read-t25-2 : tie.Need-shared-slice-read-t25-2 Inv-loop μ-loop
 shared-slice-read-t25-2 c = omega (arith, node-in (turn (c .before .before .before .before .before .before)))
 
-at-least-requires-3 : tie.Need-at-least-requires-3 Inv-loop μ-loop
-at-least-requires-3 c κs = search needs
+above-requires-2 : tie.Need-above-requires-2 Inv-loop μ-loop
+above-requires-2 c κs = search needs
 
 loop-less-3 : tie.Need-loop-less-3 Inv-loop μ-loop
 loop-less-3 c = falls (turn (c .before .before .before .before .before .before .before .before))
@@ -185,14 +185,14 @@ spread-spec =
     loop-less
     loop-again
     slice-write-label
-    at-least-requires-2
+    above-requires
     add-wait
     wide-requires-3
     slice-write-wait
     loop-less-2
     loop-again-2
     shared-slice-read-t25-2
-    at-least-requires-3
+    above-requires-2
     loop-less-3
     loop-again-3
     slice-write-stack

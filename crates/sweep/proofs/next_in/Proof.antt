@@ -5,16 +5,16 @@ use Prim.Native.Nat.{ℕ, _-_, _≤_, _<_}
 use native.Mathlib.Omega.{arith}
 use lib.ListN.{getD}
 use borrow.Author.Needs.{needs}
-use borrow.Author.Tests.{leb-true, leb-false, not-true, not-false}
+use borrow.Author.Tests.{ltb-true, ltb-false}
 use Rattle.laws.specs.Tests.{order as sides}
 use Rattle.sweep.proofs.next_in.Statement.{statement}
 use Rattle.sweep.proofs.next_in.Tie as tie
 
 abbrev Inv-loop : tie.InvT-loop
-Inv-loop order label z last r₀ r = (r ≤ z) × ((k : ℕ) → r ≤ k → k < z → getD label (getD order k 0) 0 ≤ last .0)
+Inv-loop order label last r₀ r = (r ≤ r₀) × ((k : ℕ) → r ≤ k → k < r₀ → getD label (getD order k 0) 0 ≤ last .0)
 
 abbrev μ-loop : tie.MeasureT-loop
-μ-loop order label z last r₀ r = r
+μ-loop order label last r₀ r = r
 
 -- the node at the place looked at
 here : (c : tie.After-wide2 Inv-loop μ-loop) → let a = c .before .before .before .before .before .before .before .args in c .wide2 .result ≡ getD (a .order .now) (c .before .before .before .before .loop .r - 1) 0
@@ -38,14 +38,14 @@ wide-requires-2 c κs = search needs
 shared-slice-read-t11 : tie.Need-shared-slice-read-t11 Inv-loop μ-loop
 shared-slice-read-t11 c = omega (arith, here (c .before), c .before .before .before .before .before .before .before .before .pre .1 (c .before .before .before .before .before .loop .r - 1) (omega (arith, c .before .before .before .before .before .loop .inv .0)))
 
-at-least-requires : tie.Need-at-least-requires Inv-loop μ-loop
-at-least-requires c κs = search needs
+above-requires : tie.Need-above-requires Inv-loop μ-loop
+above-requires c κs = search needs
 
 returns : tie.Need-returns Inv-loop μ-loop
 returns c =
     let a = c .before .before .before .before .before .before .before .before .before .before .args in
     let l = c .before .before .before .before .before .before .before .loop in
-    let h = leb-false _ _ (sym (c .before .at-least .ensures) ∙ not-true _ (c .if1 .taken)) in
+    let h = ltb-true _ _ (sym (c .before .above .ensures) ∙ c .if1 .taken) in
     record { most = l .inv .0; none = l .inv .1; found = λ _. subst (λ v. a .last .0 < getD (a .label .now) v 0) (here (c .before .before .before)) h }
 
 sub-r : tie.Need-sub-r Inv-loop μ-loop
@@ -58,7 +58,7 @@ loop-again : tie.Need-loop-again Inv-loop μ-loop
 loop-again c =
     let a = c .before .before .before .before .before .before .before .before .before .before .args in
     let l = c .before .before .before .before .before .before .before .loop in
-    let h = leb-true _ _ (sym (c .before .at-least .ensures) ∙ not-false _ (c .if1 .left)) in
+    let h = ltb-false _ _ (sym (c .before .above .ensures) ∙ c .if1 .left) in
     let at-r = subst (λ v. getD (a .label .now) v 0 ≤ a .last .0) (here (c .before .before .before)) h in (
       omega (arith, l .inv .0),
       λ k low i.
@@ -85,7 +85,7 @@ next-in-spec =
     shared-slice-read-wide
     wide-requires-2
     shared-slice-read-t11
-    at-least-requires
+    above-requires
     returns
     sub-r
     loop-less

@@ -20,12 +20,12 @@ abbrev μ-loop : tie.MeasureT-loop
 
 -- what a turn finds
 turn : (c : tie.After-fits2 Inv-loop μ-loop)
-    → let l = listed (c .before .before .before .before .before .before .before .args .bytes .now) in
-    let n1 = c .before .before .before .before .before .before .before .args .n1 in
-    let n2 = c .before .before .before .before .before .before .before .args .n2 in
+    → let l = listed (c .before .before .before .before .before .before .args .bytes .now) in
+    let n1 = c .before .before .before .before .before .before .args .n1 in
+    let n2 = c .before .before .before .before .before .before .args .n2 in
     (all (inRange n1 n2) l && falling l) ≡ (c .fits2 .result && fitFrom n1 n2 l (c .before .pair-at .result) (c .before .before .before .loop .i + 1))
 turn c =
-    let s = c .before .before .before .before .before .before .before in
+    let s = c .before .before .before .before .before .before in
     let b = s .args .bytes .now in
     let l = c .before .before .before .loop in
     l .inv .1
@@ -35,17 +35,14 @@ turn c =
 read-head-requires : tie.Need-read-head-requires Inv-loop μ-loop
 read-head-requires c κs = search needs
 
-add-new : tie.Need-add-new Inv-loop μ-loop
-add-new c = search needs
-
-new-requires : tie.Need-new-requires Inv-loop μ-loop
-new-requires c κs = search needs
+add-t9 : tie.Need-add-t9 Inv-loop μ-loop
+add-t9 c = search needs
 
 loop-holds : tie.Need-loop-holds Inv-loop μ-loop
 loop-holds c =
-    let a = c .before .before .before .args in
+    let a = c .before .before .args in
     let l = listed (a .bytes .now) in
-    (omega arith, fit-first (a .n1) (a .n2) l ∙ ap (λ x. fitFrom (a .n1) (a .n2) l x 0) (sym (c .new .ensures)))
+    (omega arith, fit-first (a .n1) (a .n2) l)
 
 pair-at-requires : tie.Need-pair-at-requires Inv-loop μ-loop
 pair-at-requires c κs = search needs
@@ -67,7 +64,7 @@ loop-again c = (omega arith, turn (c .before) ∙ rw (not-false (c .before .fits
 
 returns-2 : tie.Need-returns-2 Inv-loop μ-loop
 returns-2 c =
-    let s = c .before .before .before .before .before in
+    let s = c .before .before .before .before in
     let b = s .args .bytes .now in
     let l = c .before .loop in
     sym (l .inv .1 ∙ fit-last (s .args .n1) (s .args .n2) (listed b) (l .last) (l .i) (omega (arith, listed-length b (s .pre .2))))
@@ -79,8 +76,7 @@ pairs-fit-spec =
     Inv-loop
     μ-loop
     read-head-requires
-    add-new
-    new-requires
+    add-t9
     loop-holds
     pair-at-requires
     fits-requires
