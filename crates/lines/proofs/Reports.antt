@@ -22,7 +22,7 @@ use Rattle.tally.specs.Adds.{succeeds, Tallies}
 use Rattle.tally.proofs.News.{new-done}
 use Rattle.tally.proofs.Runs.{new-tallies, add-tallies}
 use Rattle.lines.specs.Text.{sizesLine, countLine, refusedLine}
-use Rattle.lines.specs.Report.{byAnswer, tallyRow, countLines, tallyAfter, roundAnswer, roundLine, roundLines, freshFor, openLines, maxInput, reportOpens, reportLines, joined, reportText, lineAt, firstLines}
+use Rattle.lines.specs.Report.{byAnswer, tallyRow, countLines, tallyAfter, roundAnswer, roundLine, roundLines, freshFor, openLines, maxInput, reportOpens, reportLines, joined, reportText, lineAt, firstLines, SentOf}
 use Rattle.lines.specs.Steps.{roundTally, Due, NextLine}
 
 -- ---- THE LINES IN THEIR ORDER ARE THE WHOLE TEXT
@@ -146,8 +146,8 @@ module _ (f v : List ℕ) (o : reportOpens f ≡ success v) where
       let q = open-fits f v opens in
       (omega (arith, p .sizes, ap (λ l. getD l 5 0) w), omega (arith, p .sizes, ap (λ l. getD l 6 0) w), omega (arith, q .rounds-most, ap (λ l. getD l 2 0) w))
 
-  pub few : length (reportLines f) ≤ 200000
-  few = omega (arith, ap length lines-are, few-lines f (freshFor v) n1 M 0, small)
+  few-open : length (reportLines f) ≤ 200000
+  few-open = omega (arith, ap length lines-are, few-lines f (freshFor v) n1 M 0, small)
 
   abbrev fresh : List ℕ
   fresh = freshFor v
@@ -256,3 +256,15 @@ module _ (f v : List ℕ) (o : reportOpens f ≡ success v) where
       let s : suc l1 ≤ n1 + 1 = omega arith in
       let g : l1 * width (tallySize2 t) + width (tallySize2 t) ≤ (n1 + 1) * width n2 = omega (arith, suc-mul l1 (width n2), mul-le-mul-right (width n2) s, ap (λ x. l1 * width x) two, two) in
       (omega (arith, h, small), omega (arith, long), omega (arith, two, small), omega (arith, g, long, room))
+
+-- ---- EVERY REPORT has a line, and far fewer than a machine can count
+sized : (f : List ℕ) (o : Outcome) → reportOpens f ≡ o → (0 < length (reportLines f)) × (length (reportLines f) ≤ 200000)
+sized f (refused n) e = let l = ap length (refused-lines f n e) in (omega (arith, l), omega (arith, l))
+sized f (success v) e = (omega (arith, all-lines f v e), few-open f v e)
+
+pub few : (f : List ℕ) → length (reportLines f) ≤ 200000
+few f = sized f (reportOpens f) refl .1
+
+-- so the receipt for no line is that of no report: a program that writes nothing has none to give
+pub unsent : (f : List ℕ) → SentOf (reportLines f) 0 true → ⊥
+unsent f s = omega (arith, s .all refl, sized f (reportOpens f) refl .0)

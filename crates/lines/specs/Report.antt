@@ -1,8 +1,8 @@
 -- The whole report on the bytes of standard input (document 01, "Writer and program").
 use mathlib.Core.Path.{_≡_}
-use mathlib.Core.Bool.{Bool, true, cond}
+use mathlib.Core.Bool.{Bool, true, false, cond}
 use mathlib.Core.List.{List, [], _∷_, _++_}
-use Prim.Native.Nat.{ℕ, zero, suc, _+_, _*_, _≤_}
+use Prim.Native.Nat.{ℕ, zero, suc, _+_, _*_, _<_}
 use lib.Dec.{ltb}
 use lib.ListN.{length, getD, take, drop, replicate}
 use Rattle.answer.specs.Outcome.{Outcome, success, refused}
@@ -83,7 +83,8 @@ abbrev pub firstLines : List ℕ → ℕ → List ℕ
 firstLines f zero = []
 firstLines f (suc n) = firstLines f n ++ lineAt f n
 
--- n lines of a report were written, and whether that is all of them
+-- the receipt for a report (report/src/output.rt): n lines were taken, in order from line 0. Where it is whole these are all; else line n
+-- was handed over and failed, and none after it was handed over
 pub record SentOf (ls : List (List ℕ)) (n : ℕ) (whole : Bool) : Type 0 where
-  pub some : n ≤ length ls
   pub all : whole ≡ true → n ≡ length ls
+  pub failed : whole ≡ false → n < length ls

@@ -1,14 +1,17 @@
 // The reporting program: a study file on standard input, its report on standard output.
+mod output;
+
 use answer::Header;
 use answer::Opened;
 use answer::Refusal;
 use answer::Written;
 use buffer::LONGEST;
 use libc::STDIN_FILENO;
-use libc::STDOUT_FILENO;
 use lines::LINE;
+use output::Sent;
 use soundness::LARGEST;
 ghost use mathlib.Core.Path.{_≡_};
+ghost use mathlib.Core.Bool.{true};
 ghost use Prim.Native.Nat.{_≤_};
 ghost use lib.Dec.{T};
 ghost use lib.ListN.{length};
@@ -82,42 +85,22 @@ fn study_line(file: &[u8], h: Header, i: usize, tally: &mut [u32], out: &mut [u8
     }
 }
 
-// Writes line i of the report; whether that succeeded. `file` is lent for what is asked of `line`.
-fn write_line(file: &[u8], i: usize, line: &[u8]) -> bool
-    requires { ⌜ now line ≡ lineAt (now file) i ⌝ }
-{
-    io::write_all(STDOUT_FILENO, line)
-}
-
-// How many lines were written, and whether that is all of them: a write may fail.
-struct Sent {
-    lines: usize,
-    whole: bool,
-}
-
 // The report on an open study, line after line up to the first write that fails.
-fn report_study(file: &[u8], h: Header, tally: &mut [u32], out: &mut [u8]) -> Sent
+fn report_study(file: &[u8], h: Header, begun: Sent, tally: &mut [u32], out: &mut [u8]) -> Sent
     requires { ⌜ (lineRoom ≤ length (now out)) × (reportOpens (now file) ≡ success (headerValues h)) × Due (now file) (headerValues h) 0 (now tally) ⌝ }
+    requires begun { ⌜ (begun .lines ≡ 0) × (begun .whole ≡ true) ⌝ }
     ensures { λ r. ⌜ SentOf (reportLines (now (file .entry))) (r .lines) (r .whole) ⌝ }
 {
-    let mut i: usize = 0;
+    let mut sent = begun;
     let mut more = true;
     while more {
+        let i = sent.lines();
         let line = study_line(file, h, i, tally, out);
         let n = line.length;
-        if !write_line(file, i, &out[..n]) {
-            return Sent {
-                lines: i,
-                whole: false,
-            };
-        }
-        more = line.more;
-        i += 1;
+        sent = output::write_line(file, sent, &out[..n]);
+        more = line.more & sent.whole();
     }
-    Sent {
-        lines: i,
-        whole: true,
-    }
+    sent
 }
 
 // The most bytes that a study on standard input has.
@@ -134,35 +117,28 @@ fn open_input(file: &[u8]) -> Opened
 }
 
 // The report on a file that is refused: one line.
-fn report_refusal(file: &[u8], refusal: Refusal) -> Sent
+fn report_refusal(file: &[u8], refusal: Refusal, begun: Sent) -> Sent
     requires { ⌜ reportOpens (now file) ≡ refused (numberOf refusal) ⌝ }
+    requires begun { ⌜ (begun .lines ≡ 0) × (begun .whole ≡ true) ⌝ }
     ensures { λ r. ⌜ SentOf (reportLines (now (file .entry))) (r .lines) (r .whole) ⌝ }
 {
     let mut out = [0u8; LINE];
     let n = lines::refused_line(answer::number(refusal) as u64, &mut out);
-    if !write_line(file, 0, &out[..n]) {
-        return Sent {
-            lines: 0,
-            whole: false,
-        };
-    }
-    Sent {
-        lines: 1,
-        whole: true,
-    }
+    output::write_line(file, begun, &out[..n])
 }
 
 // The report on a file.
 fn report(file: &[u8]) -> Sent
     ensures { λ r. ⌜ SentOf (reportLines (now (file .entry))) (r .lines) (r .whole) ⌝ }
 {
+    let begun = output::none();
     match open_input(file) {
-        Opened::Refused(r) => report_refusal(file, r),
+        Opened::Refused(r) => report_refusal(file, r, begun),
         Opened::Study(h) => {
             let mut tally = [0u32; LARGEST];
             let mut out = [0u8; LINE];
             tally::new(h.n1 as u32, h.n2 as u32, &mut tally);
-            report_study(file, h, &mut tally, &mut out)
+            report_study(file, h, begun, &mut tally, &mut out)
         }
     }
 }
