@@ -15,8 +15,8 @@
  * while the call runs. Nothing is asked of the contents or of the numbers: any are judged.
  *
  * No call keeps a pointer, allocates, or has any state: calls from several threads may run at once.
- * Bytes of stack a call takes, compiled for x86-64 (bench/stack): search 3,672, reliability 488,
- * series 360, parallel 344, round 216, open 200, write 88, tally_add and weights 56, tally_new 32,
+ * Bytes of stack a call takes, compiled for x86-64 (bench/stack): search 3,776, reliability 488,
+ * write 384, series 360, parallel 344, round 216, open 200, tally_add and weights 56, tally_new 32,
  * ageing 16; memset and memcpy come to that.
  */
 #ifndef MEDLARBRACE_H
