@@ -21,7 +21,7 @@ use Rattle.runs.proofs.Bytes.{allBytes, bytes-by}
 use Rattle.kinds.specs.Kinds as call
 use Rattle.plan.specs.Calls.{Vain, search, Searched, RowJoined, SideJoined, Built}
 use Rattle.survival.specs.Calls.{Tallied, AllSearched, Rating}
-use Rattle.demands.specs.Terms.{Wrote}
+use Rattle.demands.specs.Terms.{SameSections, Wrote}
 use Rattle.demands.specs.Ring.{ringPlan, ringRounds, RingClaims}
 use Rattle.demands.proofs.Made.{search-made}
 use Rattle.demands.proofs.One.{demand1}
@@ -35,6 +35,10 @@ ring-bytes = refl
 
 found : Searched ringFile 0 ring
 found = subst (Searched ringFile 0) ring-bytes (searched-by ringFile 0 ten 9 (table .r2-answer))
+
+outside : SameSections (1 ∷ ringFile) (2 ∷ ringFile)
+unfolding wordAt
+outside = record { long = refl; trailers = refl; nodes = refl; arcs = refl; rounds = refl }
 
 -- (3, 3) is not listed
 no-largest : pairOf 3 3 ∈ listed ring → ⊥
@@ -111,6 +115,8 @@ ring-claims =
     record {
       wrote = wrote;
       found = found;
+      outside = outside;
+      reported = demand1 .report-ignores (1 ∷ ringFile) (2 ∷ ringFile) outside;
       ran = ran;
       ran-short = ran-short;
       listed = demand2 .exact ringFile 0 ring found (pairOf 2 2) .0 (there here);

@@ -15,7 +15,8 @@ use Rattle.runs.specs.Run.{Holds, Ends}
 use Rattle.kinds.specs.Kinds as call
 use Rattle.plan.specs.Calls.{Vain, Searched, Built}
 use Rattle.survival.specs.Calls.{Tallied, AllSearched, Rating}
-use Rattle.demands.specs.Terms.{Undominated, OfRoute, Wrote}
+use Rattle.lines.specs.Report.{reportLines}
+use Rattle.demands.specs.Terms.{SameSections, Undominated, OfRoute, Wrote}
 
 -- the ring's round in a row with two of its kind side by side
 abbrev pub ringPlan : Plan
@@ -28,6 +29,9 @@ pub record RingClaims : Type 0 where
   -- R1: the writer hands on the ring's file; R2: the search of its round hands on the record 2 2 3 3 1 2 2 1 3
   pub wrote : Wrote (ringWith (3 ∷ 2 ∷ 5 ∷ 4 ∷ [])) ringFile
   pub found : Searched ringFile 0 ring
+  -- two files that differ in a byte in front of their sections, which nothing reads
+  pub outside : SameSections (1 ∷ ringFile) (2 ∷ ringFile)
+  pub reported : reportLines (1 ∷ ringFile) ≡ reportLines (2 ∷ ringFile)
   -- R2 on the machine: the search's own code, run on the ring's file and ten bytes of room, ends; it answers 9, and the room then holds the record and its
   -- own tenth byte. With eight bytes of room it ends with number 15, and file and room are as they were
   pub ran : ∥ ((e : Ends [] (call.searchRun ringFile 0 ten)) × (call.searchResult (e .made) ≡ success (9 ∷ []))

@@ -1,6 +1,6 @@
 -- Document 01's table of cases ("The sample ring and its neighbours"), by evaluation of the definitions that the contracts cite.
 use mathlib.Core.Path.{_≡_, refl}
-use mathlib.Core.Bool.{true, false}
+use mathlib.Core.Bool.{true, false, true≢false}
 use mathlib.Core.List.{List, [], _∷_, _++_}
 use Prim.Native.Nat.{ℕ, _*_}
 use lib.ListN.{replicate}
@@ -17,7 +17,7 @@ use Rattle.tally.specs.Calls.{newOut, addAnswer, addOut}
 use Rattle.weights.specs.Calls.{weightsAnswer, weightsOut}
 use Rattle.reliability.specs.Calls.{rateAnswer}
 use Rattle.lines.specs.Text.{ascii, decimal}
-use Rattle.lines.specs.Report.{reportText}
+use Rattle.lines.specs.Report.{reportLines, reportText, SentOf}
 use Rattle.compose.specs.Compose.{seriesAnswer, seriesOut, parallelAnswer, parallelOut}
 
 -- "Nodes 0 to 5 of classes 0, 0, 1, 1, 2, 2; s 0, t 1; arcs 0 2, 2 4, 4 1, 0 3, 3 1, 0 5, 5 1", with one round
@@ -117,6 +117,8 @@ pub record Table : Type 0 where
   pub r7-exact : 10000000 * sumE 2 2 500000 500000 (cell ringTally) ≡ 6875000 * scaleD 2 2
   -- R8 the reporting program, given R1's file, prints whole
   pub r8 : reportText ringFile ≡ ascii "sizes 2 2 rounds 1\nfront 0: 3,1 2,2 1,3\ncount 0: 0 0 1\ncount 1: 0 1 1\ncount 2: 1 1 1\n"
+  -- a whole receipt for it is one for five lines
+  pub r8-sent : SentOf (reportLines ringFile) 5 true
   -- "none at opening": empty input, and one byte too many
   pub r8-empty : reportText [] ≡ ascii "refused 1\n"
   pub r8-long : reportText (replicate 65537 0) ≡ ascii "refused 1\n"
@@ -199,6 +201,7 @@ table =
       r7 = refl;
       r7-exact = refl;
       r8 = refl;
+      r8-sent = record { all = λ w. refl; failed = λ w. absurd (true≢false w) };
       r8-empty = refl;
       r8-long = refl;
       r8-bad = refl;
