@@ -1,7 +1,7 @@
 -- The lines of a report by their numbers: what each is, and whether another follows.
 use mathlib.Core.Path.{_≡_, refl, sym, ap, ap₂, _∙_}
 use mathlib.Core.Bool.{Bool, true, false, cond, false≢true}
-use mathlib.Core.List.{List, [], _∷_, _++_, append-nil, append-assoc}
+use mathlib.Core.List.{List, [], _∷_, _++_}
 use Prim.Native.Nat.{ℕ, zero, suc, _+_, _-_, _*_, _≤_, _<_, min}
 use native.Mathlib.Nat.{mul-le-mul-right, suc-mul, min-eq-left, min-eq-right}
 use native.Mathlib.Omega.{arith}
@@ -10,6 +10,7 @@ use lib.ListN.{length, getD, take, replicate}
 use lib.Seq.{take-suc, take-length}
 use borrow.Author.Tests.{lt-ltb, le-ltb, ltb-true, ltb-false}
 use Rattle.limits.specs.Limits.{maxRounds, maxClass}
+use Rattle.laws.specs.Members.{concatMap, concatMap-snoc}
 use Rattle.answer.specs.Outcome.{Outcome, success, refused}
 use Rattle.answer.proofs.Outcomes.{refused-apart}
 use Rattle.study.specs.Calls.{openedRounds, openedSize1, openedSize2, openAnswer}
@@ -22,22 +23,18 @@ use Rattle.tally.specs.Adds.{succeeds, Tallies}
 use Rattle.tally.proofs.News.{new-done}
 use Rattle.tally.proofs.Runs.{new-tallies, add-tallies}
 use Rattle.lines.specs.Text.{sizesLine, countLine, refusedLine}
-use Rattle.lines.specs.Report.{byAnswer, tallyRow, countLines, tallyAfter, roundAnswer, roundLine, roundLines, freshFor, openLines, maxInput, reportOpens, reportLines, joined, reportText, lineAt, firstLines, SentOf}
+use Rattle.lines.specs.Report.{byAnswer, tallyRow, countLines, tallyAfter, roundAnswer, roundLine, roundLines, freshFor, openLines, maxInput, reportOpens, reportLines, reportText, lineAt, firstLines, SentOf}
 use Rattle.lines.specs.Steps.{roundTally, Due, NextLine}
 
 -- ---- THE LINES IN THEIR ORDER ARE THE WHOLE TEXT
-joined-append : (a b : List (List ℕ)) → joined (a ++ b) ≡ joined a ++ joined b
-joined-append [] b = refl
-joined-append (l ∷ a) b = rw (joined-append a b, append-assoc l (joined a) (joined b))
-
-first-taken : (f : List ℕ) (n : ℕ) → n ≤ length (reportLines f) → firstLines f n ≡ joined (take n (reportLines f))
+first-taken : (f : List ℕ) (n : ℕ) → n ≤ length (reportLines f) → firstLines f n ≡ concatMap (λ l. l) (take n (reportLines f))
 first-taken f zero h = refl
 first-taken f (suc n) h =
     let ls = reportLines f in
-    ap₂ _++_ (first-taken f n (omega arith)) (sym (append-nil (lineAt f n))) ∙ sym (joined-append (take n ls) (lineAt f n ∷ [])) ∙ ap joined (sym (take-suc ls n [] (omega arith)))
+    ap (λ t. t ++ lineAt f n) (first-taken f n (omega arith)) ∙ sym (concatMap-snoc (λ l. l) (take n ls) (lineAt f n)) ∙ ap (concatMap (λ l. l)) (sym (take-suc ls n [] (omega arith)))
 
 pub whole-text : (f : List ℕ) → firstLines f (length (reportLines f)) ≡ reportText f
-whole-text f = first-taken f (length (reportLines f)) (omega arith) ∙ ap joined (take-length (reportLines f))
+whole-text f = first-taken f (length (reportLines f)) (omega arith) ∙ ap (concatMap (λ l. l)) (take-length (reportLines f))
 
 -- ---- the counts
 count-lines : (k l : ℕ) (t : List ℕ) → length (countLines k l t) ≡ k
@@ -144,7 +141,7 @@ module _ (f v : List ℕ) (o : reportOpens f ≡ success v) where
       let w = open-values f v opens in
       let p = open-parts f v opens in
       let q = open-fits f v opens in
-      (omega (arith, p .sizes, ap (λ l. getD l 5 0) w), omega (arith, p .sizes, ap (λ l. getD l 6 0) w), omega (arith, q .rounds-most, ap (λ l. getD l 2 0) w))
+      (omega (arith, p .sizes, ap openedSize1 w), omega (arith, p .sizes, ap openedSize2 w), omega (arith, q .rounds-most, ap openedRounds w))
 
   few-open : length (reportLines f) ≤ 200000
   few-open = omega (arith, ap length lines-are, few-lines f (freshFor v) n1 M 0, small)

@@ -5,6 +5,7 @@ use mathlib.Core.List.{List, [], _∷_, _++_}
 use Prim.Native.Nat.{ℕ, zero, suc, _+_, _*_, _<_}
 use lib.Dec.{ltb}
 use lib.ListN.{length, getD, take, drop, replicate}
+use Rattle.laws.specs.Members.{concatMap}
 use Rattle.answer.specs.Outcome.{Outcome, success, refused}
 use Rattle.study.specs.Calls.{openedRounds, openedSize1, openedSize2, openAnswer}
 use Rattle.search.specs.Search.{searchBytes, searchAnswer}
@@ -66,12 +67,8 @@ reportOpens f = cond (ltb maxInput (length f)) (refused 1) (openAnswer f)
 abbrev pub reportLines : List ℕ → List (List ℕ)
 reportLines f = byAnswer (reportOpens f) (λ n. refusedLine n ∷ []) (openLines f)
 
-abbrev pub joined : List (List ℕ) → List ℕ
-joined [] = []
-joined (l ∷ ls) = l ++ joined ls
-
 abbrev pub reportText : List ℕ → List ℕ
-reportText f = joined (reportLines f)
+reportText f = concatMap (λ l. l) (reportLines f)
 
 -- ---- line after line
 -- line i; nothing past the last

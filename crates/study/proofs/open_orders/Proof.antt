@@ -5,12 +5,12 @@ use mathlib.Core.List.{[], _∷_}
 use native.Mathlib.Omega.{arith}
 use borrow.Author.Needs.{needs}
 use borrow.Author.Tests.{not-true, not-false}
-use lib.ListN.{length, getD}
+use lib.ListN.{length}
 use Rattle.answer.specs.Outcome.{success, outcome, opened, headerValues}
 use Rattle.answer.proofs.Outcomes.{outcome-refused}
 use Rattle.orders.specs.Order.{count, isRound}
 use Rattle.sections.specs.File.{nodesOf, roundIn}
-use Rattle.study.specs.Calls.{badOrders, openValues, checkTests}
+use Rattle.study.specs.Calls.{openedSize1, openedSize2, badOrders, openValues, checkTests}
 use Rattle.study.proofs.Lookups.{open-values, study-within, round-opens, size-small, round-small, round-part, round-length, round-eleven}
 use Rattle.study.proofs.open_orders.Statement.{statement}
 use Rattle.study.proofs.open_orders.Tie as tie
@@ -49,7 +49,7 @@ is-round-requires c κs =
     let nodes = c .node-bytes .ensures in
     let long = ap length (c .before .round-at .ensures .0 ∙ round-part f _ r (opens (c .before .before .before .before))) in (
       (omega (arith, ap length nodes, study-within f _ o .nodes-most), omega (arith, long, round-length f _ r (opens (c .before .before .before .before)))),
-      (sym (ap (count 1) nodes ∙ ap (λ l. getD l 5 0) (open-values f _ o)), sym (ap (count 2) nodes ∙ ap (λ l. getD l 6 0) (open-values f _ o))),
+      (sym (ap (count 1) nodes ∙ ap openedSize1 (open-values f _ o)), sym (ap (count 2) nodes ∙ ap openedSize2 (open-values f _ o))),
     )
 
 returns : tie.Need-returns
