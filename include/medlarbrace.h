@@ -31,11 +31,11 @@ extern "C" {
 
 /* The version of this interface: the major grows where a call's parameters, its numbers or the study
  * file change. CHANGELOG.md says what a caller edits. */
-#define MEDLARBRACE_VERSION_MAJOR 1
+#define MEDLARBRACE_VERSION_MAJOR 2
 #define MEDLARBRACE_VERSION_MINOR 0
-#define MEDLARBRACE_VERSION "1.0"
+#define MEDLARBRACE_VERSION "2.0"
 
-/* Why a call refuses. */
+/* Why a call refuses. 7 was given until version 1.0 and is not used again. */
 enum {
     MEDLARBRACE_FILE_LENGTH = 1,    /* file length outside 32 to 16,777,216 */
     MEDLARBRACE_COUNTS = 2,         /* nodes not 2 to 160, arcs above 1,024, rounds above 100,000; writer: odd arc bytes */
@@ -43,7 +43,6 @@ enum {
     MEDLARBRACE_SECTIONS = 4,       /* sections out of order, or too short */
     MEDLARBRACE_NODE_CLASS = 5,     /* a node's class above 2 */
     MEDLARBRACE_CLASS_SIZE = 6,     /* more than 64 nodes of class 1 or of class 2 */
-    MEDLARBRACE_END_CLASS = 7,      /* source or target not of class 0 */
     MEDLARBRACE_ARC = 8,            /* an arc's end is no node, or both ends are the same */
     MEDLARBRACE_ROUNDS_LENGTH = 9,  /* too few round bytes; writer: another number of them than rounds x (n1 + n2) */
     MEDLARBRACE_ROUND_NUMBER = 10,  /* no such round */
@@ -69,23 +68,23 @@ enum {
 
 /* Tests a study file, all but its orders. header, 7 words: nodes N, arcs A, rounds M, source s,
  * target t, class sizes n1 and n2.
- * Refusals: 1 to 9; 15 where header_len is under 7. */
+ * Refusals: 1 to 6, 8, 9; 15 where header_len is under 7. */
 uint32_t medlarbrace_open(const uint8_t *file, size_t file_len, uint32_t *header, size_t header_len);
 
 /* Where a round's bytes stand: `*count` bytes from `file + *start` on, class 1's order and then
  * class 2's. They are within the file. Rounds are numbered from 0; orders are not tested.
- * Refusals: 1 to 10. */
+ * Refusals: 1 to 6, 8 to 10. */
 uint32_t medlarbrace_round(const uint8_t *file, size_t file_len, uint64_t round, uint64_t *start, uint64_t *count);
 
 /* Searches a round: the record of its front into `record`, its length through `written`.
  * A record is n1, n2, k and then k pairs of bytes, 3 + 2k bytes: 133 suffice.
- * Refusals: 1 to 11, 15. */
+ * Refusals: 1 to 6, 8 to 11, 15. */
 uint32_t medlarbrace_search(const uint8_t *file, size_t file_len, uint64_t round, uint8_t *record, size_t record_len, uint64_t *written);
 
-/* Writes a study file: node bytes (a class each), arc bytes (from and to, in pairs), round bytes
- * (round_count rounds, one after another), and the trailer; all orders are tested. The length
- * through `written`: nodes_len + arcs_len + rounds_len + 32.
- * Refusals: 2, 3, 5 to 9, 11, 15. */
+/* Writes a study file: node bytes (a class each; source and target may be of any), arc bytes (from
+ * and to, in pairs), round bytes (round_count rounds, one after another), and the trailer; all
+ * orders are tested. The length through `written`: nodes_len + arcs_len + rounds_len + 32.
+ * Refusals: 2, 3, 5, 6, 8, 9, 11, 15. */
 uint32_t medlarbrace_write(const uint8_t *nodes, size_t nodes_len, const uint8_t *arcs, size_t arcs_len, const uint8_t *rounds, size_t rounds_len,
                            uint64_t source, uint64_t target, uint64_t round_count, uint8_t *file, size_t file_len, uint64_t *written);
 

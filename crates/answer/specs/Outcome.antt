@@ -53,7 +53,6 @@ numberOf refusal.Ends = 3
 numberOf refusal.Sections = 4
 numberOf refusal.NodeClass = 5
 numberOf refusal.ClassSize = 6
-numberOf refusal.EndClass = 7
 numberOf refusal.Arc = 8
 numberOf refusal.RoundsLength = 9
 numberOf refusal.RoundNumber = 10

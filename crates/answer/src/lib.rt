@@ -18,8 +18,6 @@ pub enum Refusal {
     NodeClass,
     // 6 a class size above 64
     ClassSize,
-    // 7 source or target not of class 0
-    EndClass,
     // 8 an arc's end no node, or both ends equal
     Arc,
     // 9 rounds that do not fit
@@ -107,7 +105,6 @@ pub fn number(refusal: Refusal) -> u32
         Refusal::Sections => 4,
         Refusal::NodeClass => 5,
         Refusal::ClassSize => 6,
-        Refusal::EndClass => 7,
         Refusal::Arc => 8,
         Refusal::RoundsLength => 9,
         Refusal::RoundNumber => 10,

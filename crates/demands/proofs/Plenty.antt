@@ -115,6 +115,9 @@ just-fits ts b n = none-is (fillTests ts b (length b)) (length b ∷ []) (length
 pub round-made : (f : List ℕ) (r : ℕ) → None (roundTests f r) → Searched f r (searchBytes f r)
 round-made f r n = let b = searchBytes f r in searched-by f r b (length b) (just-fits (roundTests f r) b n)
 
+pub study-made : (g : Given) → None (givenTests g) → Wrote g (studyBytes g)
+study-made g n = let b = studyBytes g in wrote-by g b (length b) (just-fits (givenTests g) b n)
+
 -- ---- plans
 -- records of plans of the same sizes pass tests 12 and 13
 joinable : (p q : Plan) (n1 n2 : ℕ) (x y : List ℕ) → PlanSized p n1 n2 → PlanSized q n1 n2 → Built p x → Built q y → None (recordTests x y)

@@ -43,9 +43,9 @@ use Rattle.demands.specs.Terms.{RoundRecord, RowRecord, SideRecord, Fres
 pub record Demand1 : Type 0 where
   -- "If a study, an order, a front, a tally or a chance is bad, or lent space is too short, the call gives the one number that document 01 fixes":
   -- it is refused with n exactly where n is the first number of its list whose test applies, and succeeds, with 01's values, exactly where none does.
-  -- opening (1 to 9): N, A, M, s, t, n1, n2
+  -- opening (1 to 6, 8, 9; 7 is not used since S-1): N, A, M, s, t, n1, n2
   pub opening : (c : call.OpenCall) → Answers (openTests (call.openFile c)) (openValues (call.openFile c)) (call.openResult c)
-  -- lookup (1 to 10), the check: 0
+  -- lookup (1 to 6, 8 to 10), the check: 0
   pub check : (c : call.CheckCall) → Answers (checkTests (call.checkFile c) (call.checkRound c)) (0 ∷ []) (call.checkResult c)
   -- lookup, the part: where the check is good, the n1 + n2 bytes of the file from T − dM + r × (n1 + n2) on; an empty part where it refuses
   pub lookup : (c : call.LookupCall) → let f = call.lookupFile c in let n = roundSize (nodesOf f) in
@@ -53,7 +53,7 @@ pub record Demand1 : Type 0 where
   pub lookup-bad : (c : call.LookupCall) (n : ℕ) → First (checkTests (call.lookupFile c) (call.lookupRound c)) n → call.lookupResult c ≡ []
   -- in both cases a part of the caller's file: in its block of memory, and within its bounds
   pub lookup-inside : (c : call.LookupCall) → Inside (call.lookupResultSlice c) (call.lookupFileSlice c)
-  -- search (1 to 11, 15): the length of the round's front record
+  -- search (1 to 6, 8 to 11, 15): the length of the round's front record
   pub search : (c : call.SearchCall) → let f = call.searchFile c in let r = call.searchRound c in
       Fills (roundTests f r) (RoundRecord (studyOf f) r) (length (call.searchLent c)) (call.searchResult c)
   -- row and side (12, 13, 15): the length of the record of the two records' row or side
@@ -73,7 +73,7 @@ pub record Demand1 : Type 0 where
   -- reliability (14, 21, 22, 25): S, M and R = floor(S / (M × 10^7))
   pub reliability : (c : call.RateCall) → let t = call.rateTally c in let s = tallyS t (call.rateChance1 c) (call.rateChance2 c) in
       Answers (rateTests t (call.rateChance1 c) (call.rateChance2 c)) (s ∷ rounds t ∷ (s / (rounds t * 10000000)) ∷ []) (call.rateResult c)
-  -- writer (2, 3, 5 to 9, 11, 15): the length of the study file
+  -- writer (2, 3, 5, 6, 8, 9, 11, 15): the length of the study file
   pub writer : (c : call.WriteCall) → let g = call.writeGiven c in
       Fills (givenTests g) (λ x. x ≡ studyBytes g) (length (call.writeLent c)) (call.writeResult c)
   -- 01: "Bytes outside the sections are ignored."

@@ -158,7 +158,7 @@ pub record EveryFunction : Type 0 where
   pub writer-says : (c : call.WriteCall) (k : ℕ) → let a = call.writeResult c in let g = call.writeGiven c in
       Says (writeFunction g (call.writeLent c) k) a
       (block u8 (g .nodes) ∷ block u8 (g .arcs) ∷ block u8 (g .rounds) ∷ block u8 (call.writeLeft c) ∷ block u64 (result 0 a k ∷ []) ∷ [])
-  -- opening into seven words (1 to 9, then 15), and lookup by place (1 to 10): the place and length of the part that lookup hands back
+  -- opening into seven words (1 to 6, 8, 9, then 15), and lookup by place (1 to 6, 8 to 10): the place and length of the part that lookup hands back
   pub opening-says : (f header : List ℕ) → Says (openFunction f header) (headerAnswer f (length header)) (block u8 f ∷ block u32 (headerOut f header) ∷ [])
   pub lookup-says : (f : List ℕ) (r start count : ℕ) → let a = placeAnswer f r in
       Says (roundFunction f r start count) a (block u8 f ∷ block u64 (result 0 a start ∷ []) ∷ block u64 (result 1 a count ∷ []) ∷ [])

@@ -1,8 +1,8 @@
 -- The first of a list of tests that is true: how a call picks the one refusal to give.
-use mathlib.Core.Path.{_≡_, refl, sym, _∙_}
+use mathlib.Core.Path.{_≡_, refl, sym, ap, _∙_}
 use mathlib.Core.Logic.{_↔_}
 use mathlib.Core.Bool.{Bool, true, false, cond, true≢false}
-use mathlib.Core.List.{List, [], _∷_, List·Memᴰ·head, List·Memᴰ·tail}
+use mathlib.Core.List.{List, [], _∷_, _++_, List·Memᴰ·head, List·Memᴰ·tail}
 use Rattle.laws.specs.Members.{_∈_, here, there}
 
 module _ {A B : Type 0} (found : A → B) (none : B) where
@@ -24,3 +24,8 @@ module _ {A B : Type 0} (found : A → B) (none : B) where
           each : firstTrue ts ≡ none → (t : A × Bool) → t ∈ u ∷ ts → t .1 ≡ false
           each f t (List·Memᴰ·head q) = rw q e
           each f t (List·Memᴰ·tail m) = r .0 f t m
+
+  -- a test that is false may be left out
+  pub first-without : (ts us : List (A × Bool)) (t : A × Bool) → t .1 ≡ false → firstTrue (ts ++ t ∷ us) ≡ firstTrue (ts ++ us)
+  first-without [] us t e = rw e
+  first-without (u ∷ ts) us t e = ap (cond (u .1) (found (u .0))) (first-without ts us t e)

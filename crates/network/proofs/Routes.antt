@@ -8,7 +8,7 @@ use native.Mathlib.Omega.{arith}
 use lib.Dec.{T, eqb, eqb→eq, eqb-refl}
 use lib.ListN.{length, length-map}
 use Rattle.laws.specs.Tests.{T-and, decide}
-use Rattle.laws.specs.Members.{_∈_, here, keep-out, keep-in, keep-length, concatMap, concatMap-out, concatMap-in, member, member-out, member-in, without, without-out, without-in, without-length, in-length}
+use Rattle.laws.specs.Members.{_∈_, here, there, keep-out, keep-in, keep-length, concatMap, concatMap-out, concatMap-in, member, member-out, member-in, without, without-out, without-in, without-length, in-length}
 use Rattle.laws.specs.Pairwise.{Pairwise}
 use Rattle.front.specs.declared.Pair.{Pair}
 use Rattle.front.specs.Front.{AtMost}
@@ -84,6 +84,11 @@ module _ (arcs : List Arc) (t : ℕ) where
 walk-ends : (arcs : List Arc) (u v : ℕ) (r : List Arc) → Walk arcs u v r → (x : ℕ) → x ∈ ends r → x ∈ ends arcs
 walk-ends arcs u v [] w x m = elim m [ ]
 walk-ends arcs u v (k ∷ ks) w x m = ⊎-elim (λ e. Memᴰ·cast e (Memᴰ·map (λ (k : Arc). k .to) (w .0))) (walk-ends arcs (k .to) v ks (w .2) x) (List·Memᴰ·cases-cons m)
+
+-- a walk visits both its ends
+pub walk-arrives : (arcs : List Arc) (u v : ℕ) (ks : List Arc) → Walk arcs u v ks → v ∈ visits u ks
+walk-arrives arcs u v [] w = List·Memᴰ·head (sym w)
+walk-arrives arcs u v (k ∷ ks) w = there (walk-arrives arcs (k .to) v ks (w .2))
 
 -- `routes` lists the routes from source to target, and nothing else
 pub routes-are : (net : Network) (r : List Arc) → (r ∈ routes net) ↔ RouteFrom (net .arcs) (net .source) (net .target) r

@@ -33,7 +33,7 @@ works zero o1 o2 a b v = true
 works (suc zero) o1 o2 a b v = ltb a (position v o1)
 works (suc (suc c)) o1 o2 a b v = ltb b (position v o2)
 
--- a chain of arcs leads from s to t through working nodes
+-- a chain of arcs leads from s to t through working nodes; `visits` has s and t too, so both must work, of whatever class they are (02, S-1)
 abbrev pub Joins : Study → (ℕ → Bool) → Type 0
 Joins st working = (ks : List Arc) × Walk (st .arcs) (st .source) (st .target) ks × ((v : ℕ) → v ∈ visits (st .source) ks → T (working v))
 
@@ -64,7 +64,7 @@ networkIn classes arcs round s t =
 abbrev pub roundNetwork : Study → ℕ → Network
 roundNetwork st r = networkIn (st .classes) (st .arcs) (roundAt st r) (st .source) (st .target)
 
--- the pair of a route in a round
+-- the pair of a route in a round: its two ends count like any other node (`pairOn`)
 abbrev pub routePair : Study → ℕ → List Arc → Pair
 routePair st r ks = pairOn (roundNetwork st r) (st .source) ks
 

@@ -1,11 +1,11 @@
 -- What the tests leave where they are all false: a study within document 01's limits.
 use mathlib.Core.Path.{_≡_, refl, sym, ap, _∙_}
-use mathlib.Core.Bool.{Bool, true, false, not, _||_}
+use mathlib.Core.Bool.{Bool, true, false, _||_}
 use mathlib.Core.List.{List, [], _∷_, List·Memᴰ·head, List·Memᴰ·tail}
 use Prim.Native.Nat.{ℕ, zero, suc, _+_, _-_, _*_, _≤_, _<_}
 use native.Mathlib.Nat.{suc-mul}
 use native.Mathlib.Omega.{arith}
-use borrow.Author.Tests.{ltb-false, leb-false, eqb-true, eqb-false, not-false}
+use borrow.Author.Tests.{ltb-false, leb-false, eqb-false}
 use lib.Dec.{eqb, leb, ltb}
 use lib.ListN.{length, getD, take, drop, length-take, length-drop}
 use lib.Seq.{drop-drop}
@@ -15,7 +15,7 @@ use Rattle.laws.specs.Tests.{T-true, or-none}
 use Rattle.orders.specs.Order.{count}
 use Rattle.slices.specs.Bytes.{partAt}
 use Rattle.parts.specs.Study.{Arc, arcsFrom, pieces, roundSize, studyFrom, WithinLimits}
-use Rattle.parts.specs.Tests.{badCounts, badEnds, badClasses, badSizes, badEndClasses, badArc, badArcs, partTests}
+use Rattle.parts.specs.Tests.{badCounts, badEnds, badClasses, badSizes, badArc, badArcs, partTests}
 
 -- ---- one test each
 pub counts-fit : (N A M : ℕ) → badCounts N A M ≡ false → (minNodes ≤ N) × (N ≤ maxNodes) × (A ≤ maxArcs) × (M ≤ maxRounds)
@@ -36,11 +36,6 @@ sizes-fit nodes e =
     let x = or-none (ltb maxClass (count 1 nodes)) (ltb maxClass (count 2 nodes)) e in
     (ltb-false maxClass (count 1 nodes) (x .0), ltb-false maxClass (count 2 nodes) (x .1))
 
-end-classes-fit : (nodes : List ℕ) (s t : ℕ) → badEndClasses nodes s t ≡ false → (getD nodes s 0 ≡ 0) × (getD nodes t 0 ≡ 0)
-end-classes-fit nodes s t e =
-    let x = or-none (not (eqb (getD nodes s 0) 0)) (not (eqb (getD nodes t 0) 0)) e in
-    (eqb-true (getD nodes s 0) 0 (not-false (eqb (getD nodes s 0) 0) (x .0)), eqb-true (getD nodes t 0) 0 (not-false (eqb (getD nodes t 0) 0) (x .1)))
-
 -- no member passes a test that none passes
 none-of : {A : Type 0} (f : A → Bool) (l : List A) → any f l ≡ false → (x : A) → x ∈ l → f x ≡ false
 none-of f l e x m = go (f x) refl
@@ -52,20 +47,18 @@ none-of f l e x m = go (f x) refl
 arc-fits : (N : ℕ) (a : Arc) → badArc N a ≡ false → (a .from < N) × (a .to < N) × (a .from ≡ a .to → ⊥)
 arc-fits N a e = ends-fit N (a .from) (a .to) e
 
--- what tests 5 to 8 leave
-pub record PartsFit (N : ℕ) (nodes arcs : List ℕ) (s t : ℕ) : Type 0 where
+-- what tests 5, 6 and 8 leave
+pub record PartsFit (N : ℕ) (nodes arcs : List ℕ) : Type 0 where
   pub classes : badClasses nodes ≡ false
   pub sizes : (count 1 nodes ≤ maxClass) × (count 2 nodes ≤ maxClass)
-  pub ends : (getD nodes s 0 ≡ 0) × (getD nodes t 0 ≡ 0)
   pub arc : badArcs N arcs ≡ false
 
-pub parts-fit : (N : ℕ) (nodes arcs : List ℕ) (s t : ℕ) → ((u : ℕ × Bool) → u ∈ partTests N nodes arcs s t → u .1 ≡ false) → PartsFit N nodes arcs s t
-parts-fit N nodes arcs s t test =
+pub parts-fit : (N : ℕ) (nodes arcs : List ℕ) → ((u : ℕ × Bool) → u ∈ partTests N nodes arcs → u .1 ≡ false) → PartsFit N nodes arcs
+parts-fit N nodes arcs test =
     record {
       classes = test _ here;
       sizes = sizes-fit nodes (test _ (there here));
-      ends = end-classes-fit nodes s t (test _ (there (there here)));
-      arc = test _ (there (there (there here)));
+      arc = test _ (there (there here));
     }
 
 -- ---- lengths
@@ -91,9 +84,9 @@ piece-at (suc m) n b (suc r) h =
     let e : n + r * n ≡ suc r * n = omega (arith, suc-mul r n) in
     piece-at m n (drop n b) r (omega arith) ∙ ap (take n) (drop-drop (r * n) n b ∙ ap (λ k. drop k b) e)
 
--- THE LIMITS: where tests 2, 3 and 5 to 8 are false and the rounds' bytes suffice
+-- THE LIMITS: where tests 2, 3, 5, 6 and 8 are false and the rounds' bytes suffice
 pub parts-within : (nodes arcs rounds : List ℕ) (s t M : ℕ)
-    → badCounts (length nodes) (arcCount arcs) M ≡ false → badEnds (length nodes) s t ≡ false → PartsFit (length nodes) nodes arcs s t → M * roundSize nodes ≤ length rounds
+    → badCounts (length nodes) (arcCount arcs) M ≡ false → badEnds (length nodes) s t ≡ false → PartsFit (length nodes) nodes arcs → M * roundSize nodes ≤ length rounds
     → WithinLimits (studyFrom nodes arcs rounds s t M)
 parts-within nodes arcs rounds s t M two three p nine =
     let c = counts-fit (length nodes) (arcCount arcs) M two in
@@ -109,8 +102,6 @@ parts-within nodes arcs rounds s t M two three p nine =
       source-in = e .0;
       target-in = e .1;
       ends-differ = e .2;
-      source-class = p .ends .0;
-      target-class = p .ends .1;
       from-in = λ a m. arc a m .0;
       to-in = λ a m. arc a m .1;
       no-loop = λ a m. arc a m .2;

@@ -2,7 +2,7 @@
 use mathlib.Core.Path.{_≡_}
 use mathlib.Core.List.{List, [], _∷_}
 use Prim.Native.Nat.{ℕ, zero, suc, _+_, _≤_, _<_}
-use lib.ListN.{length, getD, take, drop}
+use lib.ListN.{length, take, drop}
 use Rattle.limits.specs.Limits.{minNodes, maxNodes, maxArcs, maxRounds, maxClass}
 use Rattle.laws.specs.Members.{_∈_}
 use Rattle.orders.specs.Order.{count}
@@ -53,12 +53,10 @@ pub record WithinLimits (st : Study) : Type 0 where
   pub size2-most : count 2 (st .classes) ≤ maxClass
   -- a class is 0, 1 or 2
   pub classes-most : (c : ℕ) → c ∈ st .classes → c ≤ 2
-  -- source and target are two nodes of class 0
+  -- source and target are two nodes, of any class
   pub source-in : st .source < length (st .classes)
   pub target-in : st .target < length (st .classes)
   pub ends-differ : st .source ≡ st .target → ⊥
-  pub source-class : getD (st .classes) (st .source) 0 ≡ 0
-  pub target-class : getD (st .classes) (st .target) 0 ≡ 0
   -- an arc leads from a node to another
   pub from-in : (a : Arc) → a ∈ st .arcs → a .from < length (st .classes)
   pub to-in : (a : Arc) → a ∈ st .arcs → a .to < length (st .classes)

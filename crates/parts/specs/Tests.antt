@@ -1,9 +1,8 @@
--- The tests of a study's parts (document 01, "Numbers from the input"): 2, 3 and 5 to 8, on numbers and bytes, for opening and writer.
-use mathlib.Core.Bool.{Bool, not, _||_}
+-- The tests of a study's parts (document 01, "Numbers from the input"): 2, 3, 5, 6 and 8, on numbers and bytes, for opening and writer.
+use mathlib.Core.Bool.{Bool, _||_}
 use mathlib.Core.List.{List, [], _∷_}
 use Prim.Native.Nat.{ℕ}
 use lib.Dec.{eqb, leb, ltb}
-use lib.ListN.{getD}
 use Rattle.limits.specs.Limits.{minNodes, maxNodes, maxArcs, maxRounds, maxClass}
 use Rattle.laws.specs.Members.{any}
 use Rattle.orders.specs.Order.{count}
@@ -25,10 +24,6 @@ badClasses nodes = any (ltb 2) nodes
 abbrev pub badSizes : List ℕ → Bool
 badSizes nodes = ltb maxClass (count 1 nodes) || ltb maxClass (count 2 nodes)
 
--- 7 s or t not class 0
-abbrev pub badEndClasses : List ℕ → ℕ → ℕ → Bool
-badEndClasses nodes s t = not (eqb (getD nodes s 0) 0) || not (eqb (getD nodes t 0) 0)
-
 -- 8 an arc end not below N, or both ends equal
 abbrev pub badArc : ℕ → Arc → Bool
 badArc N a = leb N (a .from) || leb N (a .to) || eqb (a .from) (a .to)
@@ -36,6 +31,6 @@ badArc N a = leb N (a .from) || leb N (a .to) || eqb (a .from) (a .to)
 abbrev pub badArcs : ℕ → List ℕ → Bool
 badArcs N arcs = any (badArc N) (arcsFrom 0 arcs)
 
--- the tests of nodes and arcs, in 01's order
-abbrev pub partTests : ℕ → List ℕ → List ℕ → ℕ → ℕ → List (ℕ × Bool)
-partTests N nodes arcs s t = (5, badClasses nodes) ∷ (6, badSizes nodes) ∷ (7, badEndClasses nodes s t) ∷ (8, badArcs N arcs) ∷ []
+-- the tests of nodes and arcs, in 01's order; source and target may be of any class, and 7 is not used again (02, S-1)
+abbrev pub partTests : ℕ → List ℕ → List ℕ → List (ℕ × Bool)
+partTests N nodes arcs = (5, badClasses nodes) ∷ (6, badSizes nodes) ∷ (8, badArcs N arcs) ∷ []

@@ -1,4 +1,4 @@
-// The tests of a study's parts that opening and writer share: numbers 2, 3 and 5 to 8.
+// The tests of a study's parts that opening and writer share: numbers 2, 3, 5, 6 and 8.
 use answer::Done;
 use answer::Refusal;
 use limits::ARC;
@@ -7,7 +7,6 @@ use limits::MAX_CLASS;
 use limits::MAX_NODES;
 use limits::MAX_ROUNDS;
 use limits::MIN_NODES;
-use slices::byte;
 ghost use mathlib.Core.Path.{_≡_};
 ghost use mathlib.Core.List.{[], _∷_};
 ghost use Prim.Native.Nat.{_≤_};
@@ -59,27 +58,17 @@ fn bad_arcs(n: u8, arcs: &[u8]) -> bool
     bad
 }
 
-// Numbers 5 to 8, of nodes of which n1 are of class 1 and n2 of class 2.
-pub fn test_parts(
-    nodes: &[u8],
-    arcs: &[u8],
-    n1: usize,
-    n2: usize,
-    source: usize,
-    target: usize,
-) -> Done
+// Numbers 5, 6 and 8, of nodes of which n1 are of class 1 and n2 of class 2.
+pub fn test_parts(nodes: &[u8], arcs: &[u8], n1: usize, n2: usize) -> Done
     requires few { ⌜ length (now nodes) ≤ maxNodes ⌝ }
     requires sizes { ⌜ (n1 ≡ count 1 (now nodes)) × (n2 ≡ count 2 (now nodes)) ⌝ }
-    ensures { λ r. ⌜ done r ≡ outcome (partTests (length (now (nodes .entry))) (now (nodes .entry)) (now (arcs .entry)) source target) (0 ∷ []) ⌝ }
+    ensures { λ r. ⌜ done r ≡ outcome (partTests (length (now (nodes .entry))) (now (nodes .entry)) (now (arcs .entry))) (0 ∷ []) ⌝ }
 {
     if bad_classes(nodes) {
         return Done::Refused(Refusal::NodeClass);
     }
     if (MAX_CLASS < n1) | (MAX_CLASS < n2) {
         return Done::Refused(Refusal::ClassSize);
-    }
-    if (byte(nodes, source) != 0) | (byte(nodes, target) != 0) {
-        return Done::Refused(Refusal::EndClass);
     }
     if bad_arcs(nodes.len() as u8, arcs) {
         return Done::Refused(Refusal::Arc);

@@ -160,11 +160,10 @@ fn bad_rounds(nodes: &[u8], bytes: &[u8], total: usize) -> bool
     false
 }
 
-// 5 to 8.
-fn parts(j: Judged, n: usize, nodes: &[u8], arcs: &[u8], s: usize, t: usize) -> Judged {
+// 5, 6 and 8.
+fn parts(j: Judged, n: usize, nodes: &[u8], arcs: &[u8]) -> Judged {
     let j = note(j, class_above(nodes), 5);
     let j = note(j, (64 < of_class(nodes, 1)) | (64 < of_class(nodes, 2)), 6);
-    let j = note(j, (num(nodes, s) != 0) | (num(nodes, t) != 0), 7);
     note(j, bad_arc(arcs, n), 8)
 }
 
@@ -180,7 +179,7 @@ pub fn given(nodes: &[u8], arcs: &[u8], rounds: &[u8], s: usize, t: usize, total
     let limits = (n < 2) | (160 < n) | (1024 < arcs.len() / 2) | (100000 < total);
     let j = note(j, limits | (arcs.len() % 2 == 1), 2);
     let j = note(j, (n <= s) | (n <= t) | (s == t), 3);
-    let j = parts(j, n, nodes, arcs, s, t);
+    let j = parts(j, n, nodes, arcs);
     let j = note(j, rounds.len() != size_of(nodes, total), 9);
     note(j, bad_rounds(nodes, rounds, total), 11)
 }
@@ -208,7 +207,7 @@ pub fn opening(file: &[u8]) -> Judged
     let j = note(j, (n <= s) | (n <= t) | (s == t), 3);
     let behind = (da < dm) | (dn < da) | (at < dn);
     let j = note(j, behind | (minus(dn, da) < n) | (minus(da, dm) < 2 * a), 4);
-    let j = parts(j, n, nodes, piece(file, minus(at, da), 2 * a), s, t);
+    let j = parts(j, n, nodes, piece(file, minus(at, da), 2 * a));
     note(j, dm < size_of(nodes, m), 9)
 }
 

@@ -87,7 +87,8 @@ fn nodes_in(seed: u64, kind: u64) -> u64
     2 + draw(seed, 2, 30)
 }
 
-// Sparse, dense, grid, ring, geometric; without class 1 and 2; at the limits; small.
+// Sparse, dense, grid, ring, geometric; without class 1 and 2 but for the ends; at the limits;
+// small.
 pub fn shape_of(seed: u64, kind: u64) -> Shape
     ensures { λ r. ⌜ (2 ≤ r .nodes) × (r .nodes ≤ 160) × (r .arcs ≤ 1024) × (r .most ≤ 64) ⌝ }
 {
@@ -102,7 +103,8 @@ pub fn shape_of(seed: u64, kind: u64) -> Shape
     }
 }
 
-// A class for each node but source and target, as long as the class has room.
+// A class for each node, as long as the class has room. Source and target are of class 0, 1 or 2
+// alike, also where no other node fails.
 pub fn classes(seed: u64, s: Shape, nodes: &mut [u8])
     requires { ⌜ s .nodes ≤ 160 ⌝ }
 {
@@ -111,9 +113,10 @@ pub fn classes(seed: u64, s: Shape, nodes: &mut [u8])
     let mut n2: u64 = 0;
     while v < s.nodes {
         let end = (v == s.source) | (v == s.target);
-        let c = if end { 4 } else { draw(seed, 10 + v, 5) };
-        let one = (c < 2) & (n1 < s.most);
-        let two = (1 < c) & (c < 4) & (n2 < s.most);
+        let c = draw(seed, 10 + v, if end { 6 } else { 5 });
+        let room = if end { 64 } else { s.most };
+        let one = (c < 2) & (n1 < room);
+        let two = (1 < c) & (c < 4) & (n2 < room);
         n1 += flag(one);
         n2 += flag(two);
         poke(

@@ -51,6 +51,18 @@ pub const RATES: usize = 8;
 
 pub const AGES: usize = 9;
 
+pub const NEITHER: usize = 10;
+
+pub const ONE_END: usize = 11;
+
+pub const ONE_CLASS: usize = 12;
+
+pub const BOTH_CLASSES: usize = 13;
+
+pub const ALONE: usize = 14;
+
+pub const COUNTS: usize = 15;
+
 pub fn tick(counts: &mut [u64], at: usize, n: u64) {
     if at < counts.len() {
         counts[at] = counts[at] % 1000000000 + n % 1000000000;

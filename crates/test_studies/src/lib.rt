@@ -43,15 +43,13 @@ fn count_of(seed: u64, use_of: u64, low: usize, high: usize, usual: usize) -> us
     low + some(seed, use_of + 1, usual)
 }
 
-// The class of node v of n: in large studies 64 or 65 of each class, in small ones any.
+// The class of node v of n: in large studies 64 or 65 of each class, the usual source and target
+// among those of class 1; in small ones any.
 fn class(seed: u64, n: usize, v: usize) -> u64
     requires { ⌜ v < 1000 ⌝ }
 {
     if rarely(seed, 300 + v as u64, 900) {
         return 3;
-    }
-    if v < 2 {
-        return pick(seed, 4, 40) / 39;
     }
     if pick(seed, 5, 8) == 0 {
         return 0;
@@ -61,10 +59,10 @@ fn class(seed: u64, n: usize, v: usize) -> u64
     if n < 160 {
         return pick(seed, 600 + v as u64, 3);
     }
-    if v < 2 + first {
+    if v < first {
         return 1;
     }
-    if v < 2 + both {
+    if v < both {
         return 2;
     }
     0

@@ -113,6 +113,37 @@ fn try_rounds(
 }
 
 // ---- studies
+// Which ends fail: neither, one, two of one class, one of each.
+fn ends_are(source: u64, target: u64) -> usize {
+    if (source == 0) & (target == 0) {
+        return slots::NEITHER;
+    }
+    if (source == 0) | (target == 0) {
+        return slots::ONE_END;
+    }
+    if source == target {
+        slots::ONE_CLASS
+    } else {
+        slots::BOTH_CLASSES
+    }
+}
+
+// Whether a node of this class fails, and no other does of it.
+fn alone(class: u64, net: Net) -> bool {
+    ((class == 1) & (net.n1 == 1)) | ((class == 2) & (net.n2 == 1))
+}
+
+fn note_ends(nodes: &[u8], net: Net, counts: &mut [u64]) {
+    let source = byte(nodes, net.source);
+    let target = byte(nodes, net.target);
+    tick(counts, ends_are(source, target), 1);
+    tick(
+        counts,
+        slots::ALONE,
+        flag(alone(source, net) | alone(target, net)),
+    );
+}
+
 fn opens(opened: Opened, nodes: usize, arcs: usize, net: Net) -> bool {
     match opened {
         Opened::Refused(_) => false,
@@ -199,6 +230,7 @@ fn try_study(
     let opened = study::open_study(&file[0..n]);
     let right = opens(opened, nodes.len(), arcs.len() / 2, net);
     judge(counts, slots::OPENED, flag(!right));
+    note_ends(nodes, net, counts);
     try_file(seed, net, &file[0..n], arcs, rounds, small, counts);
 }
 
@@ -264,6 +296,17 @@ fn count(counts: &[u64], at: usize) -> u64 {
 
 fn show(counts: &[u64]) {
     line(b"studies opened ", count(counts, slots::OPENED));
+    line(b"  ends of class 0 ", count(counts, slots::NEITHER));
+    line(b"  one end fails ", count(counts, slots::ONE_END));
+    line(
+        b"  both ends of one class ",
+        count(counts, slots::ONE_CLASS),
+    );
+    line(
+        b"  ends of classes 1 and 2 ",
+        count(counts, slots::BOTH_CLASSES),
+    );
+    line(b"  an end alone in its class ", count(counts, slots::ALONE));
     line(b"rounds searched ", count(counts, slots::SEARCHED));
     line(b"pairs listed ", count(counts, slots::PAIRS));
     line(
@@ -279,7 +322,7 @@ fn show(counts: &[u64]) {
 }
 
 fn main() {
-    let mut counts = [0u64; 10];
+    let mut counts = [0u64; slots::COUNTS];
     try_networks(&mut counts);
     tick(&mut counts, slots::AGES, test_survival::AGES);
     tick(

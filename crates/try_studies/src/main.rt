@@ -251,7 +251,8 @@ fn name(k: usize) {
     io::print_decimal(STDOUT_FILENO, k as u64);
 }
 
-// A study at a limit: n nodes, k of them of a class, a arcs, m rounds without bytes. The answers of
+// A study at a limit: n nodes, the first k of them, source and target among them, of a class; a
+// arcs, m rounds without bytes. The answers of
 // the writer and, for the same parts laid out by hand, of opening.
 fn edge(label: &[u8], n: usize, class: u8, k: usize, a: usize, m: usize)
     requires { ⌜ (n ≤ 161) × (k ≤ 65) × (a ≤ 1025) × (m ≤ 100001) ⌝ }
@@ -292,7 +293,7 @@ fn nodes_of(class: u8, k: usize) -> [u8; 161]
     let mut nodes = [0u8; 161];
     let mut v = 0;
     while v < k {
-        nodes[2 + v] = class;
+        nodes[v] = class;
         v += 1;
     }
     nodes

@@ -1,19 +1,16 @@
 -- `parts::test_parts` refuses by each test in turn.
 use mathlib.Core.Path.{_≡_, sym, ap₂, _∙_}
-use mathlib.Core.Bool.{false, _||_, not}
+use mathlib.Core.Bool.{false, _||_}
 use borrow.Author.Needs.{needs}
-use lib.Dec.{eqb, ltb}
+use lib.Dec.{ltb}
 use Rattle.limits.specs.Limits.{maxClass}
-use Rattle.parts.specs.Tests.{badClasses, badSizes, badEndClasses}
+use Rattle.parts.specs.Tests.{badClasses, badSizes}
 use Rattle.parts.proofs.test_parts.Statement.{statement}
 use Rattle.parts.proofs.test_parts.Tie as tie
 
--- what the tests found, as the definitions have it
+-- what the test found, as the definition has it
 six : (c : tie.Else1) → let a = c .before .before .before .before .args in (ltb maxClass (a .n1) || ltb maxClass (a .n2)) ≡ badSizes (a .nodes .now)
 six c = ap₂ (λ n m. ltb maxClass n || ltb maxClass m) (c .before .before .before .before .pre .1 .0) (c .before .before .before .before .pre .1 .1)
-
-seven : (c : tie.After-byte2) → let a = c .before .before .before .before .before .before .before .args in (not (eqb (c .before .byte .result) 0) || not (eqb (c .byte2 .result) 0)) ≡ badEndClasses (a .nodes .now) (a .source) (a .target)
-seven c = ap₂ (λ x y. not (eqb x 0) || not (eqb y 0)) (c .before .byte .ensures) (c .byte2 .ensures)
 
 -- a test that was passed
 not-5 : (c : tie.Else1) → badClasses (c .before .before .before .before .args .nodes .now) ≡ false
@@ -21,9 +18,6 @@ not-5 c = sym (c .before .bad-classes .ensures) ∙ c .if1 .left
 
 not-6 : (c : tie.Else2) → badSizes (c .before .before .before .before .before .args .nodes .now) ≡ false
 not-6 c = sym (six (c .before)) ∙ c .if2 .left
-
-not-7 : (c : tie.Else3) → let a = c .before .before .before .before .before .before .before .before .args in badEndClasses (a .nodes .now) (a .source) (a .target) ≡ false
-not-7 c = sym (seven (c .before)) ∙ c .if3 .left
 
 bad-classes-requires : tie.Need-bad-classes-requires
 bad-classes-requires c κs = search needs
@@ -34,26 +28,17 @@ returns c = rw (sym (c .before .bad-classes .ensures) ∙ c .if1 .taken)
 returns-2 : tie.Need-returns-2
 returns-2 c = rw (not-5 (c .before), sym (six (c .before)) ∙ c .if2 .taken)
 
-byte-requires : tie.Need-byte-requires
-byte-requires c κs = search needs
-
-byte-requires-2 : tie.Need-byte-requires-2
-byte-requires-2 c κs = search needs
-
-returns-3 : tie.Need-returns-3
-returns-3 c = rw (not-5 (c .before .before .before .before), not-6 (c .before .before .before), sym (seven (c .before)) ∙ c .if3 .taken)
-
 cast-bad-arcs : tie.Need-cast-bad-arcs
 cast-bad-arcs c = search needs
 
 bad-arcs-requires : tie.Need-bad-arcs-requires
 bad-arcs-requires c κs = search needs
 
-returns-4 : tie.Need-returns-4
-returns-4 c = rw (not-5 (c .before .before .before .before .before .before), not-6 (c .before .before .before .before .before), not-7 (c .before .before), sym (c .before .bad-arcs .ensures) ∙ c .if4 .taken)
+returns-3 : tie.Need-returns-3
+returns-3 c = rw (not-5 (c .before .before .before), not-6 (c .before .before), sym (c .before .bad-arcs .ensures) ∙ c .if3 .taken)
 
-returns-5 : tie.Need-returns-5
-returns-5 c = rw (not-5 (c .before .before .before .before .before .before), not-6 (c .before .before .before .before .before), not-7 (c .before .before), sym (c .before .bad-arcs .ensures) ∙ c .if4 .left)
+returns-4 : tie.Need-returns-4
+returns-4 c = rw (not-5 (c .before .before .before), not-6 (c .before .before), sym (c .before .bad-arcs .ensures) ∙ c .if3 .left)
 
 pub test-parts-spec : {M : Type 1} → statement M
 test-parts-spec =
@@ -62,10 +47,7 @@ test-parts-spec =
     bad-classes-requires
     returns
     returns-2
-    byte-requires
-    byte-requires-2
-    returns-3
     cast-bad-arcs
     bad-arcs-requires
-    returns-4
-    returns-5)
+    returns-3
+    returns-4)

@@ -12,11 +12,11 @@ Inv-loop arcs order1 order2 out₀ n1 n2 pairs last₀ k₀ x₀ out last k x = 
 abbrev μ-loop : tie.MeasureT-loop
 μ-loop arcs order1 order2 out₀ n1 n2 pairs last₀ k₀ x₀ out last k x = x
 
-add-walk : tie.Need-add-walk Inv-loop μ-loop
-add-walk c = search needs
+place-requires : tie.Need-place-requires Inv-loop μ-loop
+place-requires c κs = search needs
 
-add-walk-2 : tie.Need-add-walk-2 Inv-loop μ-loop
-add-walk-2 c = search needs
+place-requires-2 : tie.Need-place-requires-2 Inv-loop μ-loop
+place-requires-2 c κs = search needs
 
 slice-aggregate-walk : tie.Need-slice-aggregate-walk Inv-loop μ-loop
 slice-aggregate-walk c = search needs
@@ -96,8 +96,8 @@ front-spec =
     (tie.spec
     Inv-loop
     μ-loop
-    add-walk
-    add-walk-2
+    place-requires
+    place-requires-2
     slice-aggregate-walk
     walk-requires
     add-x

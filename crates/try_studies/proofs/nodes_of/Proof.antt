@@ -15,9 +15,6 @@ abbrev μ-loop : tie.MeasureT-loop
 loop-holds : tie.Need-loop-holds Inv-loop μ-loop
 loop-holds c = search needs
 
-add-nodes : tie.Need-add-nodes Inv-loop μ-loop
-add-nodes c = search needs
-
 array-write-nodes : tie.Need-array-write-nodes Inv-loop μ-loop
 array-write-nodes c = search needs
 
@@ -40,7 +37,6 @@ nodes-of-spec =
     Inv-loop
     μ-loop
     loop-holds
-    add-nodes
     array-write-nodes
     add-v
     loop-less
