@@ -5,23 +5,12 @@ use mathlib.Core.Bool.{Bool, true, false, not, cond}
 use mathlib.Core.List.{List, [], _∷_, _++_}
 use Prim.Native.Nat.{ℕ, zero, suc, _≤_}
 use native.Mathlib.Omega.{arith}
-use lib.Dec.{T, eqb, ltb}
-use lib.ListN.{length, getD, replicate}
+use lib.Dec.{T, eqb, eqb-refl, ltb}
+use lib.ListN.{length, getD}
 use Rattle.laws.specs.First.{first-without}
-use Rattle.laws.specs.Members.{_∈_, here}
-use Rattle.answer.specs.Outcome.{Outcome, success, refused, outcome, fillAnswer, numberOf, written, done, opened, aged, rated}
-use Rattle.answer.specs.declared.Refusal.{Refusal}
-use Rattle.answer.specs.declared.Written.{Written}
-use Rattle.answer.specs.declared.Done.{Done}
-use Rattle.answer.specs.declared.Opened.{Opened}
-use Rattle.answer.specs.declared.Aged.{Aged}
-use Rattle.answer.specs.declared.Rated.{Rated}
-use Rattle.answer.specs.declared.Refusal.the-variants as refusal
-use Rattle.answer.specs.declared.Written.the-variants as written-as
-use Rattle.answer.specs.declared.Done.the-variants as done-as
-use Rattle.answer.specs.declared.Opened.the-variants as opened-as
-use Rattle.answer.specs.declared.Aged.the-variants as aged-as
-use Rattle.answer.specs.declared.Rated.the-variants as rated-as
+use Rattle.laws.specs.Members.{_∈_, here, all}
+use Rattle.laws.specs.Tests.{T-and, T-not}
+use Rattle.answer.specs.Outcome.{Outcome, success, refused, outcome, fillTests, fillAnswer}
 use Rattle.answer.proofs.Outcomes.{refused-apart}
 use Rattle.front.specs.declared.Pair.{Pair}
 use Rattle.record.specs.Record.{listed, recordHolds, longest}
@@ -30,23 +19,26 @@ use Rattle.parts.specs.Study.{Arc, Study}
 use Rattle.parts.specs.Tests.{badClasses, badSizes, badArcs}
 use Rattle.sections.specs.File.{trailer, nodesOf, arcsOf, studyOf}
 use Rattle.study.specs.Calls.{badRounds, badNumber, badOrders, trailerTests, openedRounds, openedSize1, openedSize2, openTests, openValues, openAnswer, checkTests, roundTests}
-use Rattle.writer.specs.Writer.{Given, meant, studyBytes, badRoundBytes, badGivenOrders, countTests, givenTests, writeAnswer}
+use Rattle.writer.specs.Writer.{Given, meant, studyBytes, badRoundBytes, badGivenOrders, countTests, givenTests}
+use Rattle.compose.specs.Compose.{seriesBytes, parallelBytes, recordTests}
+use Rattle.tally.specs.Calls.{newTests, addTests}
+use Rattle.weights.specs.Calls.{weightsTests}
+use Rattle.reliability.specs.Calls.{rateTests}
 use Rattle.network.specs.Walk.{visits}
 use Rattle.network.specs.Round.{Route, RoundHolds}
 use Rattle.network.proofs.Routes.{walk-arrives}
-use Rattle.search.specs.Search.{searchBytes, searchAnswer}
+use Rattle.search.specs.Search.{searchBytes}
 use Rattle.lines.specs.Text.{sizesLine, frontLine, refusedLine}
 use Rattle.lines.specs.Report.{byAnswer, roundAnswer, roundLines, freshFor, maxInput, openLines, reportOpens, reportLines}
 use Rattle.plan.specs.Plan.{Plan, searched, series, parallel, PlanHolds}
 use Rattle.plan.specs.Calls.{Searched}
-use Rattle.samples.specs.Table.{ringFile, ten}
+use Rattle.samples.specs.Table.{ten}
 use Rattle.kinds.specs.Kinds as call
 use Rattle.demands.specs.Terms.{First, None, RoundRecord}
 use Rattle.demands.specs.Requests.{badEndClasses, formerOpenTests, formerCheckTests, formerRoundTests, formerGivenTests, formerRoundLines, formerOpenLines, formerReportLines}
 use Rattle.demands.specs.Requests.{EndsNeverFail, EndsWork, PlanEndsWork, AtMostNode, Request1, failingRing, FailingEnds}
 use Rattle.demands.proofs.Numbers.{refused-same, first-is, none-is, answers, fills}
 use Rattle.demands.proofs.Fronts.{record-one, round-record}
-use Rattle.demands.proofs.Made.{opening-made, search-made}
 use Rattle.demands.proofs.Plenty.{searched-by, round-made, study-made, wrote-by}
 use Rattle.demands.proofs.One.{demand1}
 use Rattle.demands.proofs.Two.{demand2}
@@ -73,63 +65,28 @@ counted f r x s p m =
     let v = visited st (o .0) (o .1) in
     (at (st .source) (v .0), at (st .target) (v .1))
 
--- ---- no refusal has the number 7
-unnumbered : (r : Refusal) → T (not (eqb (numberOf r) 7))
-unnumbered refusal.FileLength = tt
-unnumbered refusal.Counts = tt
-unnumbered refusal.Ends = tt
-unnumbered refusal.Sections = tt
-unnumbered refusal.NodeClass = tt
-unnumbered refusal.ClassSize = tt
-unnumbered refusal.Arc = tt
-unnumbered refusal.RoundsLength = tt
-unnumbered refusal.RoundNumber = tt
-unnumbered refusal.Order = tt
-unnumbered refusal.NotRecord = tt
-unnumbered refusal.SizesDiffer = tt
-unnumbered refusal.Probability = tt
-unnumbered refusal.OutputShort = tt
-unnumbered refusal.TallyShort = tt
-unnumbered refusal.TallyUnsound = tt
-unnumbered refusal.TallySizes = tt
-unnumbered refusal.TallyFull = tt
-unnumbered refusal.NoRounds = tt
+-- ---- a number that no test of a list has is not answered
+abbrev others : ℕ → List (ℕ × Bool) → Bool
+others n ts = all (λ t. not (eqb (t .0) n)) ts
 
-refusal-7 : (r : Refusal) → refused (numberOf r) ≡ refused 7 → ⊥
-refusal-7 r e = subst (λ n. T (not (eqb n 7))) (refused-same e) (unnumbered r)
+never : (n : ℕ) (ts : List (ℕ × Bool)) (v : List ℕ) → T (others n ts) → outcome ts v ≡ refused n → ⊥
+never n [] v h e = refused-apart n v (sym e)
+never n (t ∷ ts) v h e = let k = T-and (not (eqb (t .0) n)) (others n ts) .0 h in go (t .1) (k .0) e (never n ts v (k .1))
+  where
+    go : (b : Bool) → T (not (eqb (t .0) n)) → cond b (refused (t .0)) (outcome ts v) ≡ refused n → (outcome ts v ≡ refused n → ⊥) → ⊥
+    go true k f r = T-not (eqb (t .0) n) .0 k (subst (λ m. T (eqb (t .0) m)) (refused-same f) (eqb-refl (t .0)))
+    go false k f r = r f
 
-written-7 : (w : Written) → written w ≡ refused 7 → ⊥
-written-7 (written-as.Bytes n) e = refused-apart 7 (n ∷ []) (sym e)
-written-7 (written-as.Refused r) e = refusal-7 r e
+-- of a call that fills a slice
+never-fills : (n : ℕ) (ts : List (ℕ × Bool)) (bytes : List ℕ) (room : ℕ) → T (others n (fillTests ts bytes room)) → fillAnswer ts bytes room ≡ refused n → ⊥
+never-fills n ts bytes room h e = never n (fillTests ts bytes room) (length bytes ∷ []) h e
 
-done-7 : (d : Done) → done d ≡ refused 7 → ⊥
-done-7 done-as.Done e = refused-apart 7 (0 ∷ []) (sym e)
-done-7 (done-as.Refused r) e = refusal-7 r e
-
-opened-7 : (o : Opened) → opened o ≡ refused 7 → ⊥
-opened-7 (opened-as.Study h) e = refused-apart 7 _ (sym e)
-opened-7 (opened-as.Refused r) e = refusal-7 r e
-
-aged-7 : (a : Aged) → aged a ≡ refused 7 → ⊥
-aged-7 (aged-as.Chance p) e = refused-apart 7 (p ∷ []) (sym e)
-aged-7 (aged-as.Refused r) e = refusal-7 r e
-
-rated-7 : (a : Rated) → rated a ≡ refused 7 → ⊥
-rated-7 (rated-as.Found k) e = refused-apart 7 _ (sym e)
-rated-7 (rated-as.Refused r) e = refusal-7 r e
-
-report-opens-7 : (f : List ℕ) → reportOpens f ≡ refused 7 → ⊥
-report-opens-7 f = go (ltb maxInput (length f))
+report-7 : (f : List ℕ) → (reportOpens f ≡ refused 7 → ⊥) × ((r : ℕ) → roundAnswer f r ≡ refused 7 → ⊥)
+report-7 f = (go (ltb maxInput (length f)), λ r. never-fills 7 (roundTests f r) (searchBytes f r) longest tt)
   where
     go : (b : Bool) → cond b (refused 1) (openAnswer f) ≡ refused 7 → ⊥
     go true e = absurd (omega (arith, refused-same e))
-    go false e = let m = opening-made f in opened-7 (m .0 .result) (m .0 .kept ∙ ap openAnswer (m .1) ∙ e)
-
-report-round-7 : (f : List ℕ) (r : ℕ) → roundAnswer f r ≡ refused 7 → ⊥
-report-round-7 f r e =
-    let m = search-made f r (replicate longest 0) in
-    let a : call.searchResult (m .0) ≡ searchAnswer f r longest = rw (m .1, m .2, m .3) at (m .0 .kept .0) in
-    written-7 (m .0 .result) (a ∙ e)
+    go false e = never 7 (openTests f) (openValues f) tt e
 
 -- ---- 7 left out, where both ends are of class 0
 not-seven : (ts us : List (ℕ × Bool)) (nodes : List ℕ) (s t : ℕ) (v : List ℕ) → getD nodes s 0 ≡ 0 → getD nodes t 0 ≡ 0
@@ -202,18 +159,18 @@ request1 =
       counted = counted;
       holds-only = holds-only;
       plan-holds-only = λ p x n1 n2 b s i j k l t. plan-ends p i j (demand3 .holds p x n1 n2 b s i j k l .0 t);
-      opening-7 = λ c. opened-7 (c .result);
-      check-7 = λ c. done-7 (c .result);
-      search-7 = λ c. written-7 (c .result);
-      row-7 = λ c. written-7 (c .result);
-      side-7 = λ c. written-7 (c .result);
-      fresh-7 = λ c. done-7 (c .result);
-      add-7 = λ c. done-7 (c .result);
-      ageing-7 = λ c. aged-7 (c .result);
-      weighing-7 = λ c. done-7 (c .result);
-      reliability-7 = λ c. rated-7 (c .result);
-      writer-7 = λ c. written-7 (c .result);
-      report-7 = λ f. (report-opens-7 f, report-round-7 f);
+      opening-7 = λ c e. never 7 (openTests (call.openFile c)) (openValues (call.openFile c)) tt (sym (c .kept) ∙ e);
+      check-7 = λ c e. never 7 (checkTests (call.checkFile c) (call.checkRound c)) (0 ∷ []) tt (sym (c .kept) ∙ e);
+      search-7 = λ c e. never-fills 7 (roundTests (call.searchFile c) (call.searchRound c)) (searchBytes (call.searchFile c) (call.searchRound c)) (length (call.searchLent c)) tt (sym (c .kept .0) ∙ e);
+      row-7 = λ c e. never-fills 7 (recordTests (call.seriesFirst c) (call.seriesSecond c)) (seriesBytes (call.seriesFirst c) (call.seriesSecond c)) (length (call.seriesLent c)) tt (sym (c .kept .0) ∙ e);
+      side-7 = λ c e. never-fills 7 (recordTests (call.parallelFirst c) (call.parallelSecond c)) (parallelBytes (call.parallelFirst c) (call.parallelSecond c)) (length (call.parallelLent c)) tt (sym (c .kept .0) ∙ e);
+      fresh-7 = λ c e. never 7 (newTests (call.newSize1 c) (call.newSize2 c) (length (call.newLent c))) (0 ∷ []) tt (sym (c .kept .0) ∙ e);
+      add-7 = λ c e. never 7 (addTests (call.addRecord c) (call.addLent c)) (0 ∷ []) tt (sym (c .kept .0) ∙ e);
+      ageing-7 = λ c e. never 7 ((14, ltb 30 (call.ageingAge c)) ∷ []) _ tt (sym (c .kept) ∙ e);
+      weighing-7 = λ c e. never 7 (weightsTests (call.weightsNodes c) (call.weightsChance c) (length (call.weightsLent c))) (0 ∷ []) tt (sym (c .kept .0) ∙ e);
+      reliability-7 = λ c e. never 7 (rateTests (call.rateTally c) (call.rateChance1 c) (call.rateChance2 c)) _ tt (sym (c .kept) ∙ e);
+      writer-7 = λ c e. never-fills 7 (givenTests (call.writeGiven c)) (studyBytes (call.writeGiven c)) (length (call.writeLent c)) tt (sym (c .kept .0) ∙ e);
+      report-7 = report-7;
       opening-kept = λ c h. let f = call.openFile c in answers (formerOpenTests f) (openValues f) (call.openResult c) (c .kept ∙ file-kept f h [] (openValues f));
       check-kept = λ c h.
           let f = call.checkFile c in

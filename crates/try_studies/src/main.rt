@@ -252,8 +252,8 @@ fn name(k: usize) {
 }
 
 // A study at a limit: n nodes, the first k of them, source and target among them, of a class; a
-// arcs, m rounds without bytes. The answers of
-// the writer and, for the same parts laid out by hand, of opening.
+// arcs, m rounds without bytes. The answers of the writer and, for the same parts laid out by hand,
+// of opening.
 fn edge(label: &[u8], n: usize, class: u8, k: usize, a: usize, m: usize)
     requires { ⌜ (n ≤ 161) × (k ≤ 65) × (a ≤ 1025) × (m ≤ 100001) ⌝ }
 {
