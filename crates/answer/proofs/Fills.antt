@@ -4,12 +4,12 @@ use mathlib.Core.Bool.{Bool, false, cond}
 use mathlib.Core.List.{List, [], _∷_, _++_, Memᴰ·append-left}
 use Prim.Native.Nat.{ℕ, _≤_, _<_}
 use borrow.Author.Tests.{lt-ltb, le-ltb}
-use lib.Dec.{ltb}
+use lib.Dec.{T, ltb}
 use lib.ListN.{length, getD, take, drop}
 use lib.Seq.{take-at}
 use Rattle.laws.specs.Members.{_∈_}
 use Rattle.answer.specs.Outcome.{Outcome, success, refused, outcome, filled, fillTests, fillAnswer, fillOut}
-use Rattle.answer.proofs.Outcomes.{outcome-tests, outcome-values, outcome-refused, outcome-passed}
+use Rattle.answer.proofs.Outcomes.{otherNumbers, outcome-never, outcome-tests, outcome-values, outcome-refused, outcome-passed}
 
 -- an answer and the slice that goes with it
 abbrev pub Filled : List (ℕ × Bool) → List ℕ → List ℕ → Outcome → List ℕ → Type 0
@@ -42,6 +42,10 @@ module _ (ts : List (ℕ × Bool)) (bytes out : List ℕ) where
 
   pub fill-wrote : (n : ℕ) → fillAnswer ts bytes (length out) ≡ success (n ∷ []) → take n (fillOut ts bytes out) ≡ bytes
   fill-wrote n e = ap (λ (a : Outcome). take n (filled a bytes out)) e ∙ take-at bytes (drop (length bytes) out) n (fill-length n e)
+
+-- a number that is no test's is not answered
+pub fill-never : (n : ℕ) (ts : List (ℕ × Bool)) (bytes : List ℕ) (room : ℕ) → T (otherNumbers n (fillTests ts bytes room)) → fillAnswer ts bytes room ≡ refused n → ⊥
+fill-never n ts bytes room h e = outcome-never n (fillTests ts bytes room) (length bytes ∷ []) h e
 
 module _ (bytes out : List ℕ) where
   -- delivery: the slice is too short, or holds the bytes

@@ -1,10 +1,12 @@
 -- Tests in two stages: what the first ones settle, the later ones do not change.
 use mathlib.Core.Path.{_≡_, refl, sym, ap, _∙_, subst}
-use mathlib.Core.Bool.{Bool, true, false, cond}
+use mathlib.Core.Bool.{Bool, true, false, not, cond}
 use mathlib.Core.List.{List, [], _∷_, _++_, append-nil, Memᴰ·append-left}
 use Prim.Native.Nat.{ℕ}
+use lib.Dec.{T, eqb, eqb-refl}
+use Rattle.laws.specs.Tests.{T-and, T-not}
 use Rattle.laws.specs.First.{first-none}
-use Rattle.laws.specs.Members.{_∈_}
+use Rattle.laws.specs.Members.{_∈_, all}
 use Rattle.answer.specs.Outcome.{Outcome, success, refused, outcome}
 
 -- a refusal is never a success
@@ -14,6 +16,13 @@ refused-apart n v e = subst tell e tt
     tell : Outcome → Type 0
     tell (success v) = ⊥
     tell (refused n) = Unit
+
+pub refused-same : {m n : ℕ} → refused m ≡ refused n → m ≡ n
+refused-same e = ap number e
+  where
+    number : Outcome → ℕ
+    number (success v) = 0
+    number (refused n) = n
 
 -- the values of a success are those of the call
 pub outcome-values : (ts : List (ℕ × Bool)) (v w : List ℕ) → outcome ts v ≡ success w → v ≡ w
@@ -37,6 +46,18 @@ outcome-tests ts v {w} e = first-none refused (success v) (λ n. refused-apart n
 
 pub outcome-success : (ts : List (ℕ × Bool)) (v : List ℕ) → ((t : ℕ × Bool) → t ∈ ts → t .1 ≡ false) → outcome ts v ≡ success v
 outcome-success ts v h = first-none refused (success v) (λ n. refused-apart n v) ts .1 h
+
+-- a number that no test of a list has is not answered
+abbrev pub otherNumbers : ℕ → List (ℕ × Bool) → Bool
+otherNumbers n ts = all (λ t. not (eqb (t .0) n)) ts
+
+pub outcome-never : (n : ℕ) (ts : List (ℕ × Bool)) (v : List ℕ) → T (otherNumbers n ts) → outcome ts v ≡ refused n → ⊥
+outcome-never n [] v h e = refused-apart n v (sym e)
+outcome-never n (t ∷ ts) v h e = let k = T-and (not (eqb (t .0) n)) (otherNumbers n ts) .0 h in go (t .1) (k .0) e (outcome-never n ts v (k .1))
+  where
+    go : (b : Bool) → T (not (eqb (t .0) n)) → cond b (refused (t .0)) (outcome ts v) ≡ refused n → (outcome ts v ≡ refused n → ⊥) → ⊥
+    go true k f r = T-not (eqb (t .0) n) .0 k (subst (λ m. T (eqb (t .0) m)) (refused-same f) (eqb-refl (t .0)))
+    go false k f r = r f
 
 -- a refusal by the first tests is the answer
 pub outcome-refused : (ts us : List (ℕ × Bool)) (v w : List ℕ) (n : ℕ) → outcome ts v ≡ refused n → outcome (ts ++ us) w ≡ refused n

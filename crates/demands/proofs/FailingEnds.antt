@@ -1,17 +1,17 @@
 -- S-1, ENDS THAT CAN FAIL: both ends are visited nodes; test 7 is left out of each list by one law, that a test which is false may be.
 use mathlib.Core.Path.{_≡_, refl, sym, ap, subst, _∙_}
 use mathlib.Core.Logic.{_↔_, inl, inr, ⊎-elim}
-use mathlib.Core.Bool.{Bool, true, false, not, cond}
+use mathlib.Core.Bool.{Bool, true, false, cond}
 use mathlib.Core.List.{List, [], _∷_, _++_}
 use Prim.Native.Nat.{ℕ, zero, suc, _≤_}
 use native.Mathlib.Omega.{arith}
-use lib.Dec.{T, eqb, eqb-refl, ltb}
+use lib.Dec.{T, ltb}
 use lib.ListN.{length, getD}
 use Rattle.laws.specs.First.{first-without}
-use Rattle.laws.specs.Members.{_∈_, here, all}
-use Rattle.laws.specs.Tests.{T-and, T-not}
-use Rattle.answer.specs.Outcome.{Outcome, success, refused, outcome, fillTests, fillAnswer}
-use Rattle.answer.proofs.Outcomes.{refused-apart}
+use Rattle.laws.specs.Members.{_∈_, here}
+use Rattle.answer.specs.Outcome.{Outcome, success, refused, outcome, fillAnswer}
+use Rattle.answer.proofs.Outcomes.{refused-same, outcome-never}
+use Rattle.answer.proofs.Fills.{fill-never}
 use Rattle.front.specs.declared.Pair.{Pair}
 use Rattle.record.specs.Record.{listed, recordHolds, longest}
 use Rattle.slices.specs.Bytes.{wordAt}
@@ -37,7 +37,7 @@ use Rattle.kinds.specs.Kinds as call
 use Rattle.demands.specs.Terms.{First, None, RoundRecord}
 use Rattle.demands.specs.Requests.{badEndClasses, formerOpenTests, formerCheckTests, formerRoundTests, formerGivenTests, formerRoundLines, formerOpenLines, formerReportLines}
 use Rattle.demands.specs.Requests.{EndsNeverFail, EndsWork, PlanEndsWork, AtMostNode, Request1, failingRing, FailingEnds}
-use Rattle.demands.proofs.Numbers.{refused-same, first-is, none-is, answers, fills}
+use Rattle.demands.proofs.Numbers.{first-is, none-is, answers, fills}
 use Rattle.demands.proofs.Fronts.{record-one, round-record}
 use Rattle.demands.proofs.Plenty.{searched-by, round-made, study-made, wrote-by}
 use Rattle.demands.proofs.One.{demand1}
@@ -65,28 +65,13 @@ counted f r x s p m =
     let v = visited st (o .0) (o .1) in
     (at (st .source) (v .0), at (st .target) (v .1))
 
--- ---- a number that no test of a list has is not answered
-abbrev others : ℕ → List (ℕ × Bool) → Bool
-others n ts = all (λ t. not (eqb (t .0) n)) ts
-
-never : (n : ℕ) (ts : List (ℕ × Bool)) (v : List ℕ) → T (others n ts) → outcome ts v ≡ refused n → ⊥
-never n [] v h e = refused-apart n v (sym e)
-never n (t ∷ ts) v h e = let k = T-and (not (eqb (t .0) n)) (others n ts) .0 h in go (t .1) (k .0) e (never n ts v (k .1))
-  where
-    go : (b : Bool) → T (not (eqb (t .0) n)) → cond b (refused (t .0)) (outcome ts v) ≡ refused n → (outcome ts v ≡ refused n → ⊥) → ⊥
-    go true k f r = T-not (eqb (t .0) n) .0 k (subst (λ m. T (eqb (t .0) m)) (refused-same f) (eqb-refl (t .0)))
-    go false k f r = r f
-
--- of a call that fills a slice
-never-fills : (n : ℕ) (ts : List (ℕ × Bool)) (bytes : List ℕ) (room : ℕ) → T (others n (fillTests ts bytes room)) → fillAnswer ts bytes room ≡ refused n → ⊥
-never-fills n ts bytes room h e = never n (fillTests ts bytes room) (length bytes ∷ []) h e
-
+-- ---- no list has the number 7
 report-7 : (f : List ℕ) → (reportOpens f ≡ refused 7 → ⊥) × ((r : ℕ) → roundAnswer f r ≡ refused 7 → ⊥)
-report-7 f = (go (ltb maxInput (length f)), λ r. never-fills 7 (roundTests f r) (searchBytes f r) longest tt)
+report-7 f = (go (ltb maxInput (length f)), λ r. fill-never 7 (roundTests f r) (searchBytes f r) longest tt)
   where
     go : (b : Bool) → cond b (refused 1) (openAnswer f) ≡ refused 7 → ⊥
     go true e = absurd (omega (arith, refused-same e))
-    go false e = never 7 (openTests f) (openValues f) tt e
+    go false e = outcome-never 7 (openTests f) (openValues f) tt e
 
 -- ---- 7 left out, where both ends are of class 0
 not-seven : (ts us : List (ℕ × Bool)) (nodes : List ℕ) (s t : ℕ) (v : List ℕ) → getD nodes s 0 ≡ 0 → getD nodes t 0 ≡ 0
@@ -159,17 +144,17 @@ request1 =
       counted = counted;
       holds-only = holds-only;
       plan-holds-only = λ p x n1 n2 b s i j k l t. plan-ends p i j (demand3 .holds p x n1 n2 b s i j k l .0 t);
-      opening-7 = λ c e. never 7 (openTests (call.openFile c)) (openValues (call.openFile c)) tt (sym (c .kept) ∙ e);
-      check-7 = λ c e. never 7 (checkTests (call.checkFile c) (call.checkRound c)) (0 ∷ []) tt (sym (c .kept) ∙ e);
-      search-7 = λ c e. never-fills 7 (roundTests (call.searchFile c) (call.searchRound c)) (searchBytes (call.searchFile c) (call.searchRound c)) (length (call.searchLent c)) tt (sym (c .kept .0) ∙ e);
-      row-7 = λ c e. never-fills 7 (recordTests (call.seriesFirst c) (call.seriesSecond c)) (seriesBytes (call.seriesFirst c) (call.seriesSecond c)) (length (call.seriesLent c)) tt (sym (c .kept .0) ∙ e);
-      side-7 = λ c e. never-fills 7 (recordTests (call.parallelFirst c) (call.parallelSecond c)) (parallelBytes (call.parallelFirst c) (call.parallelSecond c)) (length (call.parallelLent c)) tt (sym (c .kept .0) ∙ e);
-      fresh-7 = λ c e. never 7 (newTests (call.newSize1 c) (call.newSize2 c) (length (call.newLent c))) (0 ∷ []) tt (sym (c .kept .0) ∙ e);
-      add-7 = λ c e. never 7 (addTests (call.addRecord c) (call.addLent c)) (0 ∷ []) tt (sym (c .kept .0) ∙ e);
-      ageing-7 = λ c e. never 7 ((14, ltb 30 (call.ageingAge c)) ∷ []) _ tt (sym (c .kept) ∙ e);
-      weighing-7 = λ c e. never 7 (weightsTests (call.weightsNodes c) (call.weightsChance c) (length (call.weightsLent c))) (0 ∷ []) tt (sym (c .kept .0) ∙ e);
-      reliability-7 = λ c e. never 7 (rateTests (call.rateTally c) (call.rateChance1 c) (call.rateChance2 c)) _ tt (sym (c .kept) ∙ e);
-      writer-7 = λ c e. never-fills 7 (givenTests (call.writeGiven c)) (studyBytes (call.writeGiven c)) (length (call.writeLent c)) tt (sym (c .kept .0) ∙ e);
+      opening-7 = λ c e. outcome-never 7 (openTests (call.openFile c)) (openValues (call.openFile c)) tt (sym (c .kept) ∙ e);
+      check-7 = λ c e. outcome-never 7 (checkTests (call.checkFile c) (call.checkRound c)) (0 ∷ []) tt (sym (c .kept) ∙ e);
+      search-7 = λ c e. fill-never 7 (roundTests (call.searchFile c) (call.searchRound c)) (searchBytes (call.searchFile c) (call.searchRound c)) (length (call.searchLent c)) tt (sym (c .kept .0) ∙ e);
+      row-7 = λ c e. fill-never 7 (recordTests (call.seriesFirst c) (call.seriesSecond c)) (seriesBytes (call.seriesFirst c) (call.seriesSecond c)) (length (call.seriesLent c)) tt (sym (c .kept .0) ∙ e);
+      side-7 = λ c e. fill-never 7 (recordTests (call.parallelFirst c) (call.parallelSecond c)) (parallelBytes (call.parallelFirst c) (call.parallelSecond c)) (length (call.parallelLent c)) tt (sym (c .kept .0) ∙ e);
+      fresh-7 = λ c e. outcome-never 7 (newTests (call.newSize1 c) (call.newSize2 c) (length (call.newLent c))) (0 ∷ []) tt (sym (c .kept .0) ∙ e);
+      add-7 = λ c e. outcome-never 7 (addTests (call.addRecord c) (call.addLent c)) (0 ∷ []) tt (sym (c .kept .0) ∙ e);
+      ageing-7 = λ c e. outcome-never 7 ((14, ltb 30 (call.ageingAge c)) ∷ []) _ tt (sym (c .kept) ∙ e);
+      weighing-7 = λ c e. outcome-never 7 (weightsTests (call.weightsNodes c) (call.weightsChance c) (length (call.weightsLent c))) (0 ∷ []) tt (sym (c .kept .0) ∙ e);
+      reliability-7 = λ c e. outcome-never 7 (rateTests (call.rateTally c) (call.rateChance1 c) (call.rateChance2 c)) _ tt (sym (c .kept) ∙ e);
+      writer-7 = λ c e. fill-never 7 (givenTests (call.writeGiven c)) (studyBytes (call.writeGiven c)) (length (call.writeLent c)) tt (sym (c .kept .0) ∙ e);
       report-7 = report-7;
       opening-kept = λ c h. let f = call.openFile c in answers (formerOpenTests f) (openValues f) (call.openResult c) (c .kept ∙ file-kept f h [] (openValues f));
       check-kept = λ c h.

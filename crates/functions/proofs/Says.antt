@@ -4,21 +4,24 @@ use mathlib.Core.List.{List, [], _∷_}
 use Prim.Native.Nat.{ℕ}
 use lib.ListN.{length, getD}
 use mir.Syntax.{w32}
-use mir.Val.{Val, vint}
+use mir.Val.{Val, vunit, vbool, vint, vfloat, vptr, vstruct}
 use prog.Routine.{anyName}
 use contract.Running.{tablesOf}
 use borrow.Fn.World.{w₀}
+use native.Mathlib.Omega.{arith}
 use Rattle.answer.specs.Outcome.{Outcome, success, refused, filled}
-use Rattle.study.specs.Calls.{openValues}
+use Rattle.answer.proofs.Outcomes.{outcome-never}
+use Rattle.answer.proofs.Fills.{fill-never}
+use Rattle.study.specs.Calls.{openValues, checkTests, roundTests}
 use Rattle.search.specs.Search.{searchAnswer, searchBytes}
 use Rattle.compose.specs.Compose.{seriesAnswer, seriesBytes, parallelAnswer, parallelBytes}
-use Rattle.writer.specs.Writer.{Given, writeAnswer, studyBytes}
+use Rattle.writer.specs.Writer.{Given, givenTests, writeAnswer, studyBytes}
 use Rattle.tally.specs.Cells.{tallyOf}
 use Rattle.tally.specs.Calls.{newAnswer, added, addAnswer}
 use Rattle.chance.specs.Chance.{weights}
 use Rattle.weights.specs.Calls.{ageingAnswer, weightsAnswer}
 use Rattle.reliability.specs.Calls.{rateAnswer}
-use Rattle.medlarbrace.specs.Interface.{result, headerAnswer, placeAnswer}
+use Rattle.medlarbrace.specs.Interface.{result, headerTests, headerAnswer, placeValues, placeAnswer}
 use Rattle.medlarbrace.proofs.Opened.{round-placed}
 use Rattle.runs.specs.Arguments.{u8, u32, u64, Block, block, lent}
 use Rattle.runs.specs.Run.{at, Held, Run, AlwaysEnds}
@@ -57,7 +60,7 @@ use Rattle.medlarbrace.proofs.tallies.medlarbrace_reliability.Symbol as reliabi
 use Rattle.medlarbrace.proofs.files.medlarbrace_write.Reads as writer-reads
 use Rattle.medlarbrace.proofs.files.medlarbrace_write.Met as writer-met
 use Rattle.medlarbrace.proofs.files.medlarbrace_write.Symbol as writer-symbol
-use Rattle.functions.specs.Functions.{openFunction, roundFunction, searchFunction, seriesFunction, parallelFunction, newFunction, addFunction, ageingFunction, weightsFunction, reliabilityFunction, writeFunction, Says, KeepsUnless0, EveryFunction}
+use Rattle.functions.specs.Functions.{openFunction, roundFunction, searchFunction, seriesFunction, parallelFunction, newFunction, addFunction, ageingFunction, weightsFunction, reliabilityFunction, writeFunction, Says, KeepsUnless0, NeverReturns, EveryFunction}
 
 -- the machine's value is the number that was returned
 returned : {v : Val} {n m : ℕ} → v ∷ [] ≡ vint w32 n ∷ [] → n ≡ m → v ≡ vint w32 m
@@ -71,6 +74,20 @@ likewise c left a o s t e h = rw (e, h) (λ says. says)
 keeps : (c : Run) (left : Outcome → List Block) → ((n : ℕ) → left (refused n) ≡ lent (c .args)) → (a : Outcome) → Says c a (left a) → KeepsUnless0 c
 keeps c left same (success v) says others e h = absurd (h (says others e .0))
 keeps c left same (refused n) says others e h = subst (Held (e .memory) (at others)) (same n) (says others e .1)
+
+-- a function whose call never answers a number other than 0 never returns it
+number-of : Val → ℕ
+number-of (vint w n) = n
+number-of vunit = 0
+number-of (vbool b) = 0
+number-of (vfloat w x) = 0
+number-of (vptr b i) = 0
+number-of (vstruct vs) = 0
+
+never : (c : Run) (n : ℕ) (a : Outcome) (blocks : List Block) → (0 ≡ n → ⊥) → Says c a blocks → (a ≡ refused n → ⊥) → NeverReturns n c
+unfolding number-of
+never c n (success v) blocks other says h others e q = other (ap number-of (sym (says others e .0) ∙ q))
+never c n (refused m) blocks other says h others e q = h (ap (λ v. refused (number-of v)) (sym (says others e .0) ∙ q))
 
 -- ---- medlarbrace_open
 opening-ends : (f header : List ℕ) → AlwaysEnds (openFunction f header)
@@ -257,5 +274,19 @@ every-function =
       ageing-keeps = λ y chance. keeps (ageingFunction y chance) (ageing-left y chance) (λ i. refl) (ageingAnswer y) (ageing-said y chance);
       weights-keeps = λ n p out. keeps (weightsFunction n p out) (λ a. new-left (filled a (weights p n) out) a) (λ i. refl) (weightsAnswer n p (length out)) (weights-said n p out);
       reliability-keeps = λ t p1 p2 s m r. keeps (reliabilityFunction t p1 p2 s m r) (reliability-left t p1 p2 s m r) (λ i. refl) (rateAnswer t p1 p2) (reliability-said t p1 p2 s m r);
+      opening-7 = λ f header.
+          let a = headerAnswer f (length header) in
+          never (openFunction f header) 7 a (opening-left f header a) (λ e. absurd (omega (arith, e))) (opening-said f header) (outcome-never 7 (headerTests f (length header)) (openValues f) tt);
+      lookup-7 = λ f r start count.
+          let a = placeAnswer f r in
+          never (roundFunction f r start count) 7 a (lookup-left f r start count a) (λ e. absurd (omega (arith, e))) (lookup-said f r start count) (outcome-never 7 (checkTests f r) (placeValues f r) tt);
+      search-7 = λ f r out k.
+          let b = searchBytes f r in
+          let a = searchAnswer f r (length out) in
+          never (searchFunction f r out k) 7 a (search-left f k (filled a b out) a) (λ e. absurd (omega (arith, e))) (search-said f r out k) (fill-never 7 (roundTests f r) b (length out) tt);
+      writer-7 = λ g out k.
+          let b = studyBytes g in
+          let a = writeAnswer g (length out) in
+          never (writeFunction g out k) 7 a (writer-left g k (filled a b out) a) (λ e. absurd (omega (arith, e))) (writer-said g out k) (fill-never 7 (givenTests g) b (length out) tt);
       writer-keeps = λ g out k. keeps (writeFunction g out k) (λ a. writer-left g k (filled a (studyBytes g) out) a) (λ i. refl) (writeAnswer g (length out)) (writer-said g out k);
     }

@@ -120,6 +120,10 @@ Says c answer blocks = (others : List Block) (e : Ends others c) → (e .value �
 abbrev pub KeepsUnless0 : Run → Type 0
 KeepsUnless0 c = (others : List Block) (e : Ends others c) → (e .value ≡ vint w32 0 → ⊥) → Held (e .memory) (at others) (lent (c .args))
 
+-- it never returns this number
+abbrev pub NeverReturns : ℕ → Run → Type 0
+NeverReturns n c = (others : List Block) (e : Ends others c) → e .value ≡ vint w32 n → ⊥
+
 pub record EveryFunction : Type 0 where
   -- each ends, and asks nothing of its caller
   pub opening-ends : (f header : List ℕ) → AlwaysEnds (openFunction f header)
@@ -176,3 +180,8 @@ pub record EveryFunction : Type 0 where
   pub weights-keeps : (n p : ℕ) (out : List ℕ) → KeepsUnless0 (weightsFunction n p out)
   pub reliability-keeps : (t : List ℕ) (p1 p2 s m r : ℕ) → KeepsUnless0 (reliabilityFunction t p1 p2 s m r)
   pub writer-keeps : (g : Given) (out : List ℕ) (k : ℕ) → KeepsUnless0 (writeFunction g out k)
+  -- 02, S-1: "Number 7 no longer occurs." Of the functions on studies, which had it
+  pub opening-7 : (f header : List ℕ) → NeverReturns 7 (openFunction f header)
+  pub lookup-7 : (f : List ℕ) (r start count : ℕ) → NeverReturns 7 (roundFunction f r start count)
+  pub search-7 : (f : List ℕ) (r : ℕ) (out : List ℕ) (k : ℕ) → NeverReturns 7 (searchFunction f r out k)
+  pub writer-7 : (g : Given) (out : List ℕ) (k : ℕ) → NeverReturns 7 (writeFunction g out k)
