@@ -35,7 +35,7 @@ extern "C" {
 #define MEDLARBRACE_VERSION_MINOR 0
 #define MEDLARBRACE_VERSION "2.0"
 
-/* Why a call refuses. 7 was given until version 1.0 and is not used again. */
+/* Why a call refuses. 7 was given up to version 1.0 and is not used again. */
 enum {
     MEDLARBRACE_FILE_LENGTH = 1,    /* file length outside 32 to 16,777,216 */
     MEDLARBRACE_COUNTS = 2,         /* nodes not 2 to 160, arcs above 1,024, rounds above 100,000; writer: odd arc bytes */
