@@ -86,7 +86,7 @@ NodeWorks st r a b v = let o = roundAt st r in T (works (classOf st v) (order1 (
 abbrev pub EndsWork : Study → ℕ → ℕ → ℕ → Type 0
 EndsWork st r a b = NodeWorks st r a b (st .source) × NodeWorks st r a b (st .target)
 
--- in every round of a plan that has to hold
+-- of a plan: in both parts of a series, in at least one of a parallel
 abbrev pub PlanEndsWork : Plan → ℕ → ℕ → Type 0
 PlanEndsWork (searched f r) a b = EndsWork (studyOf f) r a b
 PlanEndsWork (series p q) a b = PlanEndsWork p a b × PlanEndsWork q a b
@@ -125,8 +125,8 @@ pub record Request1 : Type 0 where
   pub reliability-7 : (c : call.RateCall) → call.rateResult c ≡ refused 7 → ⊥
   pub writer-7 : (c : call.WriteCall) → call.writeResult c ≡ refused 7 → ⊥
   pub report-7 : (f : List ℕ) → (reportOpens f ≡ refused 7 → ⊥) × ((r : ℕ) → roundAnswer f r ≡ refused 7 → ⊥)
-  -- "A study with both ends of class 0 keeps its results.": each call answers by its former list, and the report's lines are those by the former lists. What a
-  -- search, and the writer, leave in a slice is as Demand1 has it, whatever the ends
+  -- "A study with both ends of class 0 keeps its results.": each call answers by its former list, and the report's lines, of which its text is made, are
+  -- those by the former lists. What a search and the writer leave in a slice is as Demand1 has it, whatever the ends
   pub opening-kept : (c : call.OpenCall) → let f = call.openFile c in EndsNeverFail (studyOf f)
       → Answers (formerOpenTests f) (openValues f) (call.openResult c)
   pub check-kept : (c : call.CheckCall) → let f = call.checkFile c in EndsNeverFail (studyOf f)
