@@ -104,7 +104,7 @@ pub record Request1 : Type 0 where
   pub searches : (f : List ℕ) (r : ℕ) → None (exceptNumber 7 (formerRoundTests f r)) → (x : List ℕ) × Searched f r x
   pub writes : (g : Given) → None (exceptNumber 7 (formerGivenTests g)) → Wrote g (studyBytes g)
   -- "A route's pair takes in its two ends like any other node": they are among the nodes that it visits, over which its pair is the least (`PairOf`); so
-  -- neither number of a listed pair is above an end's position
+  -- no listed pair is above an end's position, in the end's class
   pub visited : (st : Study) (ks : List Arc) → Route st ks → (st .source ∈ visits (st .source) ks) × (st .target ∈ visits (st .source) ks)
   pub counted : (f : List ℕ) (r : ℕ) (x : List ℕ) → Searched f r x → (p : Pair) → p ∈ listed x → let st = studyOf f in
       AtMostNode st r p (st .source) × AtMostNode st r p (st .target)
