@@ -1,4 +1,4 @@
-//! Tallies and reliability in plain Rust, with document 01's tests.
+//! Tallies and reliability in plain Rust, with the tests of documents 01 and 02.
 
 const HEAD: usize = 3;
 
@@ -58,7 +58,7 @@ fn state(tally: &[u32], sound: Sound) -> u32 {
 }
 
 #[inline(always)]
-pub fn add(record: &[u8], tally: &mut [u32], sound: Sound) -> u32 {
+fn ready(record: &[u8], tally: &[u32], sound: Sound) -> u32 {
     if !is_record(record) {
         return 12;
     }
@@ -66,21 +66,90 @@ pub fn add(record: &[u8], tally: &mut [u32], sound: Sound) -> u32 {
     if number != 0 {
         return number;
     }
-    let (n1, n2) = (tally[0] as usize, tally[1] as usize);
-    if (record[0] as usize, record[1] as usize) != (n1, n2) {
+    if (record[0] as u32, record[1] as u32) != (tally[0], tally[1]) {
         return 23;
+    }
+    0
+}
+
+/// Each row's cells where the record holds, from the first row to the last, by their number.
+#[inline(always)]
+fn heights(record: &[u8], n1: usize) -> impl Iterator<Item = usize> + '_ {
+    let (mut pairs, mut height) = (record[3..].chunks_exact(2).peekable(), 0);
+    (0..=n1).map(move |l1| {
+        while let Some(p) = pairs.next_if(|p| p[0] as usize > n1 - l1) {
+            height = p[1] as usize;
+        }
+        height
+    })
+}
+
+#[inline(always)]
+fn change(record: &[u8], tally: &mut [u32], step: impl Fn(&mut u32)) {
+    let (n1, w) = (tally[0] as usize, tally[1] as usize + 1);
+    step(&mut tally[2]);
+    for (row, height) in tally[HEAD..HEAD + (n1 + 1) * w].chunks_exact_mut(w).zip(heights(record, n1)) {
+        row[w - height..].iter_mut().for_each(&step);
+    }
+}
+
+#[inline(always)]
+pub fn add(record: &[u8], tally: &mut [u32], sound: Sound) -> u32 {
+    let number = ready(record, tally, sound);
+    if number != 0 {
+        return number;
     }
     if tally[2] == 100_000 {
         return 24;
     }
-    tally[2] += 1;
-    let (w, mut pairs, mut height) = (n2 + 1, record[3..].chunks_exact(2).peekable(), 0);
-    for (l1, row) in tally[HEAD..HEAD + (n1 + 1) * w].chunks_exact_mut(w).enumerate() {
-        while let Some(p) = pairs.next_if(|p| p[0] as usize > n1 - l1) {
-            height = p[1] as usize;
-        }
-        row[w - height..].iter_mut().for_each(|cell| *cell += 1);
+    change(record, tally, |x| *x += 1);
+    0
+}
+
+/// M and each cell to be lowered above 0; then lowered, tested again, and raised again where it is not sound.
+#[inline(always)]
+pub fn remove_and_test(record: &[u8], tally: &mut [u32], sound: Sound) -> u32 {
+    let number = ready(record, tally, sound);
+    if number != 0 {
+        return number;
     }
+    let (n1, n2) = (tally[0] as usize, tally[1] as usize);
+    let w = n2 + 1;
+    let rows = tally[HEAD..HEAD + (n1 + 1) * w].chunks_exact(w);
+    if tally[2] == 0 || !rows.zip(heights(record, n1)).all(|(row, height)| row[w - height..].iter().all(|&x| 0 < x)) {
+        return 31;
+    }
+    change(record, tally, |x| *x -= 1);
+    if !sound(&tally[HEAD..], n1, n2, tally[2]) {
+        change(record, tally, |x| *x += 1);
+        return 31;
+    }
+    0
+}
+
+/// The library's own test of 31: along the front's edge, before anything is written.
+#[inline(always)]
+pub fn remove_by_edge(record: &[u8], tally: &mut [u32], sound: Sound) -> u32 {
+    let number = ready(record, tally, sound);
+    if number != 0 {
+        return number;
+    }
+    let (n1, w) = (tally[0] as usize, tally[1] as usize + 1);
+    let cells = &tally[HEAD..HEAD + (n1 + 1) * w];
+    let (mut good, mut before) = (record[2] > 0 || cells[(n1 + 1) * w - 1] < tally[2], 0);
+    for (l1, height) in heights(record, n1).enumerate() {
+        let (row, first) = (&cells[l1 * w..][..w], w - height);
+        good &= height == 0 || if first == 0 { 0 < row[0] } else { row[first - 1] < row[first] };
+        if l1 > 0 {
+            let above = &cells[(l1 - 1) * w..][..w];
+            good &= above[first..w - before].iter().zip(&row[first..w - before]).all(|(x, y)| x < y);
+        }
+        before = height;
+    }
+    if !good {
+        return 31;
+    }
+    change(record, tally, |x| *x -= 1);
     0
 }
 

@@ -1,4 +1,4 @@
-/* The sample ring: written, searched, joined, tallied, and its reliability by age.
+/* The sample ring: written, searched, joined, tallied, a front taken back, and its reliability by age.
  *
  *     examples/run-c [FILE]
  *
@@ -102,6 +102,9 @@ int main(int argc, char **argv)
 
     must(medlarbrace_tally_new(front[0], front[1], tally, MEDLARBRACE_TALLY_WORDS), "tally_new");
     must(medlarbrace_tally_add(front, searched, tally, MEDLARBRACE_TALLY_WORDS), "tally_add");
+    /* the other block's front was added by mistake, and is taken back */
+    must(medlarbrace_tally_add(other, sizeof other, tally, MEDLARBRACE_TALLY_WORDS), "tally_add");
+    must(medlarbrace_tally_remove(other, sizeof other, tally, MEDLARBRACE_TALLY_WORDS), "tally_remove");
     print_counts(tally);
 
     must(medlarbrace_weights(2, 900000, weights, 3), "weights");

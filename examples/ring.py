@@ -1,4 +1,4 @@
-"""The sample ring: written, searched, joined, tallied, and its reliability by age.
+"""The sample ring: written, searched, joined, tallied, a front taken back, and its reliability by age.
 
     examples/run-python [FILE]
 
@@ -25,6 +25,7 @@ CALLS = {
     "parallel": SLICE * 3 + [TO_LONG],
     "tally_new": [WORD, WORD] + WORD_SLICE,
     "tally_add": SLICE + WORD_SLICE,
+    "tally_remove": SLICE + WORD_SLICE,
     "ageing": [LONG, TO_WORD],
     "weights": [WORD, WORD] + WORD_SLICE,
     "reliability": WORD_SLICE + [WORD, WORD] + [TO_LONG] * 3,
@@ -81,8 +82,16 @@ def tallied(n1, n2, records):
     tally = (WORD * TALLY_WORDS)()
     call("tally_new", n1, n2, tally, TALLY_WORDS)
     for each in records:
-        call("tally_add", *lent(each), tally, TALLY_WORDS)
+        add(tally, each)
     return tally
+
+
+def add(tally, front):
+    call("tally_add", *lent(front), tally, TALLY_WORDS)
+
+
+def take_back(tally, front):
+    call("tally_remove", *lent(front), tally, TALLY_WORDS)
 
 
 def chance_at(age):
@@ -140,7 +149,9 @@ def main():
     print_pairs("row", record("series", *lent(front), *lent(other)))
     print_pairs("side", record("parallel", *lent(front), *lent(other)))
 
-    tally = tallied(n1, n2, [front])
+    # the other block's front was added by mistake, and is taken back
+    tally = tallied(n1, n2, [front, other])
+    take_back(tally, other)
     print_counts(tally)
     print("weights of 2 at 0.9:", *weights(2, 900000))
     for age in range(31):

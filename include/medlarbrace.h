@@ -32,8 +32,8 @@ extern "C" {
 /* The version of this interface: the major grows where a call's parameters, its numbers or the study
  * file change. CHANGELOG.md says what a caller edits. */
 #define MEDLARBRACE_VERSION_MAJOR 2
-#define MEDLARBRACE_VERSION_MINOR 0
-#define MEDLARBRACE_VERSION "2.0"
+#define MEDLARBRACE_VERSION_MINOR 1
+#define MEDLARBRACE_VERSION "2.1"
 
 /* Why a call refuses. 7 was given up to version 1.0 and is not used again. */
 enum {
@@ -52,10 +52,11 @@ enum {
     MEDLARBRACE_CHANCE = 14,        /* a chance above 1,000,000, or an age above 30 */
     MEDLARBRACE_OUTPUT_SHORT = 15,  /* an output slice too short */
     MEDLARBRACE_TALLY_SHORT = 21,   /* a tally slice too short */
-    MEDLARBRACE_TALLY_UNSOUND = 22, /* a tally that is not sound: no adds can have left it */
+    MEDLARBRACE_TALLY_UNSOUND = 22, /* a tally that is not sound: no calls can have left it */
     MEDLARBRACE_TALLY_SIZES = 23,   /* a tally of other class sizes than the record */
     MEDLARBRACE_TALLY_FULL = 24,    /* a tally of 100,000 rounds already */
-    MEDLARBRACE_NO_ROUNDS = 25      /* a tally of no rounds where reliability is wanted */
+    MEDLARBRACE_NO_ROUNDS = 25,     /* a tally of no rounds where reliability is wanted */
+    MEDLARBRACE_NOT_REMOVABLE = 31  /* a front that cannot be taken out of the tally */
 };
 
 /* Slices that suffice for any study. */
@@ -110,6 +111,14 @@ uint32_t medlarbrace_tally_new(uint32_t n1, uint32_t n2, uint32_t *tally, size_t
 /* Adds a front: M grows by 1, and each cell where the front holds by 1.
  * Refusals: 12, 21 to 24. */
 uint32_t medlarbrace_tally_add(const uint8_t *record, size_t record_len, uint32_t *tally, size_t tally_len);
+
+/* Takes a front out again: M falls by 1, and each cell where the front holds by 1. A front that was
+ * added and not yet taken out can always be taken out, whatever was added or taken out since; the
+ * tally is then that of the fronts that remain. Adding it back restores every word. A tally has no
+ * names: a front that was never added is taken out too where what is left is sound.
+ * Refusals: 12, 21 to 23, and 31 where M or a cell to be lowered is 0, or what would be left is not
+ * sound. */
+uint32_t medlarbrace_tally_remove(const uint8_t *record, size_t record_len, uint32_t *tally, size_t tally_len);
 
 /* ---- chances, in millionths: that one node of the class works */
 

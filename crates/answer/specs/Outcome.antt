@@ -1,5 +1,5 @@
 -- What an answer means in document 01 ("Numbers from the input", "Numbers from the state"): the values of a success, or the number of a refusal.
-use mathlib.Core.Bool.{Bool}
+use mathlib.Core.Bool.{Bool, true, false}
 use mathlib.Core.List.{List, [], _∷_, _++_}
 use Prim.Native.Nat.{ℕ}
 use lib.Dec.{ltb}
@@ -24,6 +24,11 @@ pub data Outcome : Type 0 where
   success : List ℕ → Outcome
   refused : ℕ → Outcome
 
+-- whether it is a success
+abbrev pub succeeds : Outcome → Bool
+succeeds (success values) = true
+succeeds (refused n) = false
+
 -- THE ANSWER OF A CALL, from its tests in document 01's order, each with its number, and the values of its success:
 -- the first test that is true refuses
 abbrev pub outcome : List (ℕ × Bool) → List ℕ → Outcome
@@ -45,7 +50,7 @@ abbrev pub fillOut : List (ℕ × Bool) → List ℕ → List ℕ → List ℕ
 fillOut tests bytes out = filled (fillAnswer tests bytes (length out)) bytes out
 
 -- ---- the enums of the code
--- document 01's number of each refusal
+-- the number of each refusal: document 01's, and from 31 on 02's
 abbrev pub numberOf : Refusal → ℕ
 numberOf refusal.FileLength = 1
 numberOf refusal.Counts = 2
@@ -66,13 +71,14 @@ numberOf refusal.TallyUnsound = 22
 numberOf refusal.TallySizes = 23
 numberOf refusal.TallyFull = 24
 numberOf refusal.NoRounds = 25
+numberOf refusal.NotRemovable = 31
 
 -- "search, row, side and writer the length written"
 abbrev pub written : Written → Outcome
 written (written-as.Bytes n) = success (n ∷ [])
 written (written-as.Refused r) = refused (numberOf r)
 
--- "fresh, add and weights 0"
+-- "fresh, add and weights 0"; so does remove (02: take)
 abbrev pub done : Done → Outcome
 done done-as.Done = success (0 ∷ [])
 done (done-as.Refused r) = refused (numberOf r)

@@ -4,7 +4,7 @@ ghost use mathlib.Core.List.{[]};
 ghost use lib.ListN.{length};
 ghost use Rattle.answer.specs.Outcome.{numberOf, written, fillAnswer, fillOut};
 
-// Why a call refuses: a case for each number of document 01's two lists.
+// Why a call refuses: a case for each number of document 01's two lists, and for those of document 02.
 pub enum Refusal {
     // 1 the file's length
     FileLength,
@@ -44,6 +44,8 @@ pub enum Refusal {
     TallyFull,
     // 25 no rounds where reliability is wanted
     NoRounds,
+    // 31 a front that cannot be taken out of a tally
+    NotRemovable,
 }
 
 // The answer of search, series, parallel and the writer: the length written.
@@ -52,7 +54,7 @@ pub enum Written {
     Refused(Refusal),
 }
 
-// The answer of new, add, weights and the check of a round: 0.
+// The answer of new, add, remove, weights and the check of a round: 0.
 pub enum Done {
     Done,
     Refused(Refusal),
@@ -94,7 +96,7 @@ pub enum Rated {
     Refused(Refusal),
 }
 
-// Document 01's number of a refusal.
+// A refusal's number, document 01's or 02's.
 pub fn number(refusal: Refusal) -> u32
     ensures { λ r. ⌜ r ≡ numberOf refusal ⌝ }
 {
@@ -118,6 +120,7 @@ pub fn number(refusal: Refusal) -> u32
         Refusal::TallySizes => 23,
         Refusal::TallyFull => 24,
         Refusal::NoRounds => 25,
+        Refusal::NotRemovable => 31,
     }
 }
 

@@ -12,7 +12,7 @@ use Rattle.study.specs.Calls.{openTests, openValues, checkTests, roundTests}
 use Rattle.study.proofs.Lookups.{round-part, round-found, lookup-refused}
 use Rattle.compose.specs.Compose.{seriesBytes, parallelBytes, recordTests}
 use Rattle.search.specs.Search.{searchBytes}
-use Rattle.tally.specs.Calls.{newTests, addTests}
+use Rattle.tally.specs.Calls.{newTests, addTests, removeTests}
 use Rattle.weights.specs.Calls.{weightsTests}
 use Rattle.reliability.specs.Calls.{rateTests}
 use Rattle.writer.specs.Writer.{studyBytes, givenTests}
@@ -67,6 +67,7 @@ demand1 =
           (c .kept .0);
       fresh = λ c. answers (newTests (call.newSize1 c) (call.newSize2 c) (length (call.newLent c))) (0 ∷ []) (call.newResult c) (c .kept .0);
       add = λ c. answers (addTests (call.addRecord c) (call.addLent c)) (0 ∷ []) (call.addResult c) (c .kept .0);
+      remove = λ c. answers (removeTests (call.removeRecord c) (call.removeLent c)) (0 ∷ []) (call.removeResult c) (c .kept .0);
       ageing = λ c. let y = call.ageingAge c in answers ((14, ltb 30 y) ∷ []) _ (call.ageingResult c) (c .kept);
       weighing = λ c. answers (weightsTests (call.weightsNodes c) (call.weightsChance c) (length (call.weightsLent c))) (0 ∷ []) (call.weightsResult c) (c .kept .0);
       reliability = λ c. answers (rateTests (call.rateTally c) (call.rateChance1 c) (call.rateChance2 c)) _ (call.rateResult c) (c .kept);
@@ -84,6 +85,7 @@ demand1 =
       side-leaves = leave.side-leaves;
       fresh-leaves = leave.fresh-leaves;
       add-leaves = leave.add-leaves;
+      remove-leaves = leave.remove-leaves;
       weighing-leaves = leave.weighing-leaves;
       writer-leaves = leave.writer-leaves;
       opening-reads = λ c. refl;
@@ -93,6 +95,7 @@ demand1 =
       row-reads = λ c. (refl, refl);
       side-reads = λ c. (refl, refl);
       add-reads = λ c. refl;
+      remove-reads = λ c. refl;
       reliability-reads = λ c. refl;
       writer-reads = λ c. refl;
       opening-made = make.opening-made;
@@ -103,6 +106,7 @@ demand1 =
       side-made = make.side-made;
       fresh-made = make.fresh-made;
       add-made = make.add-made;
+      remove-made = make.remove-made;
       ageing-made = make.ageing-made;
       weighing-made = make.weights-made;
       reliability-made = make.reliability-made;
@@ -115,6 +119,7 @@ demand1 =
       side-ends = end.side-ends;
       fresh-ends = end.fresh-ends;
       add-ends = end.add-ends;
+      remove-ends = end.remove-ends;
       ageing-ends = end.ageing-ends;
       weighing-ends = end.weighing-ends;
       reliability-ends = end.reliability-ends;
@@ -127,6 +132,7 @@ demand1 =
       side-keeps = keep.side-keeps;
       fresh-keeps = keep.fresh-keeps;
       add-keeps = keep.add-keeps;
+      remove-keeps = keep.remove-keeps;
       weighing-keeps = keep.weighing-keeps;
       reliability-keeps = keep.reliability-keeps;
       writer-keeps = keep.writer-keeps;

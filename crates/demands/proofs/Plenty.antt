@@ -1,15 +1,15 @@
 -- Calls that succeed wherever the definitions say so, and from them every plan and every list of rounds that can be built.
 use mathlib.Core.Path.{_≡_, refl, sym, ap, ap₂, subst, _∙_}
-use mathlib.Core.Bool.{Bool, true, false, not, _&&_, _||_}
-use mathlib.Core.List.{List, [], _∷_}
-use Prim.Native.Nat.{ℕ, _≤_, _<_}
+use mathlib.Core.Bool.{Bool, false, _&&_, _||_}
+use mathlib.Core.List.{List, [], _∷_, List·Memᴰ·head, List·Memᴰ·tail}
+use Prim.Native.Nat.{ℕ, _≤_}
 use native.Mathlib.Omega.{arith}
-use borrow.Author.Tests.{eq-eqb, ne-eqb, le-leb, le-ltb}
-use lib.Dec.{T, leb, ltb, eqb, eqb-refl}
+use borrow.Author.Tests.{le-ltb}
+use lib.Dec.{T, ltb, eqb, eqb-refl}
 use lib.ListN.{length, take, replicate, length-replicate}
 use Rattle.limits.specs.Limits.{maxRounds, maxClass}
 use Rattle.laws.specs.Members.{_∈_, here, there}
-use Rattle.laws.specs.Tests.{T-true, T-and, T-not}
+use Rattle.laws.specs.Tests.{T-and, T-not}
 use Rattle.answer.specs.Outcome.{Outcome, success, outcome, fillTests, fillAnswer, fillOut}
 use Rattle.answer.proofs.Fills.{fill-wrote}
 use Rattle.record.specs.Record.{recordSize1, recordSize2, isRecord}
@@ -18,21 +18,21 @@ use Rattle.sections.specs.File.{studyOf}
 use Rattle.network.specs.Round.{studySize1, studySize2}
 use Rattle.study.specs.Calls.{roundTests}
 use Rattle.search.specs.Search.{searchBytes, searchAnswer, searchOut}
-use Rattle.soundness.specs.Tally.{headWords, tallySize1, tallySize2, rounds, words, noRoom, isSound}
-use Rattle.soundness.proofs.Sounds.{sound-is}
-use Rattle.tally.specs.Calls.{newAnswer, newOut, addAnswer, addOut}
-use Rattle.tally.specs.Adds.{Tallies}
+use Rattle.soundness.specs.Tally.{words}
+use Rattle.tally.specs.Calls.{newAnswer, newOut, addAnswer, addOut, removeOut}
+use Rattle.tally.specs.Steps.{Fits}
+use Rattle.tally.proofs.Runs.{add-succeeds}
 use Rattle.reliability.specs.Calls.{rateAnswer}
 use Rattle.writer.specs.Writer.{Given, studyBytes, givenTests, writeAnswer, writeOut}
 use Rattle.plan.specs.Plan.{Plan, searched, series, parallel, PlanSized}
 use Rattle.plan.specs.Calls.{Through, none, Handed, Searched, RowJoined, SideJoined, Built}
 use Rattle.plan.proofs.Plans.{sound, one-size}
-use Rattle.survival.specs.Calls.{Begun, Added, Tallied, AllSearched, Rating}
+use Rattle.survival.specs.Calls.{Begun, Added, Tallied, Removing, AllSearched, Rating}
 use Rattle.survival.proofs.Tallies.{run, as-many}
 use Rattle.kinds.specs.Kinds as call
 use Rattle.demands.specs.Terms.{None, PlanPasses, Wrote}
 use Rattle.demands.proofs.Numbers.{none-is, none-append, fits}
-use Rattle.demands.proofs.Made.{search-made, row-made, side-made, fresh-made, add-made, reliability-made, writer-made}
+use Rattle.demands.proofs.Made.{search-made, row-made, side-made, fresh-made, add-made, remove-made, reliability-made, writer-made}
 
 -- what a successful call filled, handed on at once
 at-once : (ts : List (ℕ × Bool)) (bytes s left : List ℕ) (n : ℕ) (a : Outcome) → a ≡ fillAnswer ts bytes (length s) → left ≡ fillOut ts bytes s → fillAnswer ts bytes (length s) ≡ success (n ∷ []) → Handed a left bytes
@@ -101,6 +101,13 @@ added-by x t o =
     let l : call.addLeft c ≡ addOut x t = rw (m .1, m .2) at (c .kept .1) in
     record { made = c; record-is = m .1; tally-is = m .2; success-is = a ∙ o; through = subst (Through (call.addLeft c)) l none }
 
+pub removing-by : (x t : List ℕ) → Removing x t (removeOut x t)
+removing-by x t =
+    let m = remove-made x t in
+    let c = m .0 in
+    let l : call.removeLeft c ≡ removeOut x t = rw (m .1, m .2) at (c .kept .1) in
+    record { made = c; record-is = m .1; tally-is = m .2; through = subst (Through (call.removeLeft c)) l none }
+
 pub rating-by : (t : List ℕ) (p1 p2 s m r : ℕ) → rateAnswer t p1 p2 ≡ success (s ∷ m ∷ r ∷ []) → Rating t p1 p2 s m r
 rating-by t p1 p2 s m r o =
     let k = reliability-made t p1 p2 in
@@ -155,39 +162,33 @@ new-answer n1 n2 h k =
     go : (a b c : Bool) → a ≡ false → b ≡ false → c ≡ false → outcome ((6, a || b) ∷ (21, c) ∷ []) (0 ∷ []) ≡ success (0 ∷ [])
     go a b c ha hb hc = rw (ha, hb, hc)
 
-module _ (x : List ℕ) {s t : List ℕ} {n1 n2 : ℕ} {rs : List (List ℕ)} (is : isRecord x ≡ true) (one : recordSize1 x ≡ n1) (two : recordSize2 x ≡ n2) (w : Tallies s t n1 n2 rs) (few : length rs < maxRounds) where
-  has-room : noRoom t ≡ false
-  has-room =
-      go (ltb (length t) headWords) (leb (tallySize1 t) maxClass) (leb (tallySize2 t) maxClass) (ltb (length t) (words (tallySize1 t) (tallySize2 t))) (le-ltb (length t) headWords (omega (arith, fit)))
-      (le-leb (tallySize1 t) maxClass (w .sound .small1)) (le-leb (tallySize2 t) maxClass (w .sound .small2)) (le-ltb (length t) (words (tallySize1 t) (tallySize2 t)) fit)
-    where
-      fit : words (tallySize1 t) (tallySize2 t) ≤ length t
-      fit = rw (w .one, w .two, w .long) (w .room)
-
-      go : (a b c d : Bool) → a ≡ false → b ≡ true → c ≡ true → d ≡ false → a || (b && c && d) ≡ false
-      go a b c d ha hb hc hd = rw (ha, hb, hc, hd)
-
-  add-answer : addAnswer x t ≡ success (0 ∷ [])
-  add-answer =
-      go (isRecord x) (noRoom t) (isSound t) (eqb (recordSize1 x) (tallySize1 t)) (eqb (recordSize2 x) (tallySize2 t)) (eqb (rounds t) maxRounds) is has-room (sound-is t .1 (w .sound))
-      (eq-eqb (recordSize1 x) (tallySize1 t) (one ∙ sym (w .one))) (eq-eqb (recordSize2 x) (tallySize2 t) (two ∙ sym (w .two))) (ne-eqb (rounds t) maxRounds (λ e. absurd (omega (arith, e, w .many, few))))
-    where
-      go : (a b c d e f : Bool) → a ≡ true → b ≡ false → c ≡ true → d ≡ true → e ≡ true → f ≡ false
-          → outcome ((12, not a) ∷ (21, b) ∷ (22, not c) ∷ (23, not (d && e)) ∷ (24, f) ∷ []) (0 ∷ []) ≡ success (0 ∷ [])
-      go a b c d e f ha hb hc hd he hf = rw (ha, hb, hc, hd, he, hf)
+-- of records that fit, up to the largest M
+pub adds-made : (n1 n2 : ℕ) (xs : List (List ℕ)) → n1 ≤ maxClass → n2 ≤ maxClass → length xs ≤ maxRounds → ((x : List ℕ) → x ∈ xs → Fits n1 n2 x) → (t : List ℕ) × Tallied n1 n2 xs t
+adds-made n1 n2 [] a b c h = (newOut n1 n2 (blank n1 n2), begun-by n1 n2 (blank n1 n2) (new-answer n1 n2 a b))
+adds-made n1 n2 (x ∷ xs) a b c h =
+    let k = adds-made n1 n2 xs a b (omega arith) (λ y m. h y (there m)) in
+    (addOut x (k .0), (k .0, k .1, added-by x (k .0) (add-succeeds (run n1 n2 xs (k .0) (k .1) .tallies) x (h x here) (omega arith))))
 
 abbrev Good : ℕ → ℕ → List ℕ × ℕ → Type 0
 Good n1 n2 q = None (roundTests (q .0) (q .1)) × (studySize1 (studyOf (q .0)) ≡ n1) × (studySize2 (studyOf (q .0)) ≡ n2)
 
-pub tally-made : (n1 n2 : ℕ) (qs : List (List ℕ × ℕ)) → n1 ≤ maxClass → n2 ≤ maxClass → length qs ≤ maxRounds → ((q : List ℕ × ℕ) → q ∈ qs → Good n1 n2 q)
-    → (xs : List (List ℕ)) × (t : List ℕ) × Tallied n1 n2 xs t × AllSearched qs xs
-tally-made n1 n2 [] a b c h = ([], newOut n1 n2 (blank n1 n2), begun-by n1 n2 (blank n1 n2) (new-answer n1 n2 a b), tt)
-tally-made n1 n2 (q ∷ qs) a b c h =
-    let k = tally-made n1 n2 qs a b (omega arith) (λ i m. h i (there m)) in
+-- of rounds: their records fit
+rounds-made : (n1 n2 : ℕ) (qs : List (List ℕ × ℕ)) → ((q : List ℕ × ℕ) → q ∈ qs → Good n1 n2 q) → (xs : List (List ℕ)) × AllSearched qs xs × ((x : List ℕ) → x ∈ xs → Fits n1 n2 x)
+rounds-made n1 n2 [] h = ([], tt, λ x m. elim m [ ])
+rounds-made n1 n2 (q ∷ qs) h =
+    let k = rounds-made n1 n2 qs (λ i m. h i (there m)) in
     let g = h q here in
     let x = searchBytes (q .0) (q .1) in
     let s : Searched (q .0) (q .1) x = round-made (q .0) (q .1) (g .0) in
-    let d = run n1 n2 (k .0) (k .1) (k .2) in
-    let few : length (d .records) < maxRounds = omega (arith, d .many, as-many qs (k .0) (k .3)) in
-    let o = add-answer x (T-true (isRecord x) .0 (sound (searched (q .0) (q .1)) x s .is)) (g .1) (g .2) (d .tallies) few in
-    (x ∷ k .0, addOut x (k .1), (k .1, k .2, added-by x (k .1) o), (s, k .3))
+    (x ∷ k .0, (s, k .1), each x (k .0) (sound (searched (q .0) (q .1)) x s .is, g .1, g .2) (k .2))
+  where
+    each : (x : List ℕ) (xs : List (List ℕ)) → Fits n1 n2 x → ((y : List ℕ) → y ∈ xs → Fits n1 n2 y) → (y : List ℕ) → y ∈ x ∷ xs → Fits n1 n2 y
+    each x xs f g y (List·Memᴰ·head e) = rw e f
+    each x xs f g y (List·Memᴰ·tail m) = g y m
+
+pub tally-made : (n1 n2 : ℕ) (qs : List (List ℕ × ℕ)) → n1 ≤ maxClass → n2 ≤ maxClass → length qs ≤ maxRounds → ((q : List ℕ × ℕ) → q ∈ qs → Good n1 n2 q)
+    → (xs : List (List ℕ)) × (t : List ℕ) × Tallied n1 n2 xs t × AllSearched qs xs
+tally-made n1 n2 qs a b c h =
+    let k = rounds-made n1 n2 qs h in
+    let w = adds-made n1 n2 (k .0) a b (omega (arith, as-many qs (k .0) (k .1))) (k .2) in
+    (k .0, w .0, w .1, k .1)

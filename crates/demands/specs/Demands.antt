@@ -27,7 +27,7 @@ use Rattle.network.specs.Round.{studySize1, studySize2, Route, RoundHolds}
 use Rattle.chance.specs.Chance.{weights, sumE, scaleD, Near}
 use Rattle.weights.specs.Calls.{weightsTests}
 use Rattle.soundness.specs.Tally.{tallySize1, tallySize2, rounds, cell, Sound}
-use Rattle.tally.specs.Calls.{newTests, addTests}
+use Rattle.tally.specs.Calls.{newTests, addTests, removeTests}
 use Rattle.reliability.specs.Calls.{tallyS, rateTests}
 use Rattle.lines.specs.Report.{reportLines}
 use Rattle.plan.specs.Plan.{Plan, searched, series, parallel, PlanHolds, PlanSized}
@@ -38,7 +38,7 @@ use Rattle.kinds.specs.Kinds as call
 use Rattle.runs.specs.Arguments.{Block}
 use Rattle.runs.specs.Run.{at, Ends, AlwaysEnds, Keeps}
 use Rattle.demands.specs.Terms.{First, None, Refused, Answers, Fills, Leaves, SameSections, Undominated, PairOf, OfRoute}
-use Rattle.demands.specs.Terms.{RoundRecord, RowRecord, SideRecord, FreshTally, RaisedTally, PlanPasses, Wrote}
+use Rattle.demands.specs.Terms.{RoundRecord, RowRecord, SideRecord, FreshTally, RaisedTally, LoweredTally, PlanPasses, Wrote}
 
 pub record Demand1 : Type 0 where
   -- "If a study, an order, a front, a tally or a chance is bad, or lent space is too short, the call gives the one number that document 01 fixes":
@@ -65,6 +65,8 @@ pub record Demand1 : Type 0 where
   pub fresh : (c : call.NewCall) → Answers (newTests (call.newSize1 c) (call.newSize2 c) (length (call.newLent c))) (0 ∷ []) (call.newResult c)
   -- add (12, 21 to 24): 0
   pub add : (c : call.AddCall) → Answers (addTests (call.addRecord c) (call.addLent c)) (0 ∷ []) (call.addResult c)
+  -- remove (S-2's take; 12, 21 to 23, 31): 0
+  pub remove : (c : call.RemoveCall) → Answers (removeTests (call.removeRecord c) (call.removeLent c)) (0 ∷ []) (call.removeResult c)
   -- ageing (14): the chance; 01: "for age y in years, 0 to 30, 1,000,000 − 1,000 × y²"
   pub ageing : (c : call.AgeingCall) → let y = call.ageingAge c in Answers ((14, ltb 30 y) ∷ []) ((1000000 - 1000 * (y * y)) ∷ []) (call.ageingResult c)
   -- weights (6, 14, 15): 0
@@ -97,6 +99,8 @@ pub record Demand1 : Type 0 where
       Leaves (SideRecord (call.parallelFirst c) (call.parallelSecond c)) (call.parallelResult c) (call.parallelLent c) (call.parallelLeft c)
   pub fresh-leaves : (c : call.NewCall) → Leaves (FreshTally (call.newSize1 c) (call.newSize2 c)) (call.newResult c) (call.newLent c) (call.newLeft c)
   pub add-leaves : (c : call.AddCall) → Leaves (RaisedTally (call.addRecord c) (call.addLent c)) (call.addResult c) (call.addLent c) (call.addLeft c)
+  pub remove-leaves : (c : call.RemoveCall) →
+      Leaves (LoweredTally (call.removeRecord c) (call.removeLent c)) (call.removeResult c) (call.removeLent c) (call.removeLeft c)
   pub weighing-leaves : (c : call.WeightsCall) →
       Leaves (λ x. x ≡ weights (call.weightsChance c) (call.weightsNodes c)) (call.weightsResult c) (call.weightsLent c) (call.weightsLeft c)
   pub writer-leaves : (c : call.WriteCall) → Leaves (λ x. x ≡ studyBytes (call.writeGiven c)) (call.writeResult c) (call.writeLent c) (call.writeLeft c)
@@ -108,6 +112,7 @@ pub record Demand1 : Type 0 where
   pub row-reads : (c : call.SeriesCall) → (call.seriesFirstAfter c ≡ call.seriesFirst c) × (call.seriesSecondAfter c ≡ call.seriesSecond c)
   pub side-reads : (c : call.ParallelCall) → (call.parallelFirstAfter c ≡ call.parallelFirst c) × (call.parallelSecondAfter c ≡ call.parallelSecond c)
   pub add-reads : (c : call.AddCall) → call.addRecordAfter c ≡ call.addRecord c
+  pub remove-reads : (c : call.RemoveCall) → call.removeRecordAfter c ≡ call.removeRecord c
   pub reliability-reads : (c : call.RateCall) → call.rateTallyAfter c ≡ call.rateTally c
   pub writer-reads : (c : call.WriteCall) → call.writeGivenAfter c ≡ call.writeGiven c
   -- "every call ends". On every input there is a call of each kind, so that nothing above speaks of nothing;
@@ -120,6 +125,7 @@ pub record Demand1 : Type 0 where
   pub side-made : (y z s : List ℕ) → (c : call.ParallelCall) × (call.parallelFirst c ≡ y) × (call.parallelSecond c ≡ z) × (call.parallelLent c ≡ s)
   pub fresh-made : (n1 n2 : ℕ) (s : List ℕ) → (c : call.NewCall) × (call.newSize1 c ≡ n1) × (call.newSize2 c ≡ n2) × (call.newLent c ≡ s)
   pub add-made : (x t : List ℕ) → (c : call.AddCall) × (call.addRecord c ≡ x) × (call.addLent c ≡ t)
+  pub remove-made : (x t : List ℕ) → (c : call.RemoveCall) × (call.removeRecord c ≡ x) × (call.removeLent c ≡ t)
   pub ageing-made : (y : ℕ) → (c : call.AgeingCall) × (call.ageingAge c ≡ y)
   pub weighing-made : (n p : ℕ) (s : List ℕ) → (c : call.WeightsCall) × (call.weightsNodes c ≡ n) × (call.weightsChance c ≡ p) × (call.weightsLent c ≡ s)
   pub reliability-made : (t : List ℕ) (p1 p2 : ℕ) → (c : call.RateCall) × (call.rateTally c ≡ t) × (call.rateChance1 c ≡ p1) × (call.rateChance2 c ≡ p2)
@@ -134,6 +140,7 @@ pub record Demand1 : Type 0 where
   pub side-ends : (y z s : List ℕ) → AlwaysEnds (call.parallelRun y z s)
   pub fresh-ends : (n1 n2 : ℕ) (s : List ℕ) → AlwaysEnds (call.newRun n1 n2 s)
   pub add-ends : (x t : List ℕ) → AlwaysEnds (call.addRun x t)
+  pub remove-ends : (x t : List ℕ) → AlwaysEnds (call.removeRun x t)
   pub ageing-ends : (y : ℕ) → AlwaysEnds (call.ageingRun y)
   pub weighing-ends : (n p : ℕ) (s : List ℕ) → AlwaysEnds (call.weightsRun n p s)
   pub reliability-ends : (t : List ℕ) (p1 p2 : ℕ) → AlwaysEnds (call.rateRun t p1 p2)
@@ -147,6 +154,7 @@ pub record Demand1 : Type 0 where
   pub side-keeps : (y z s : List ℕ) → Keeps (call.parallelRun y z s) (λ c. Refused (call.parallelResult c))
   pub fresh-keeps : (n1 n2 : ℕ) (s : List ℕ) → Keeps (call.newRun n1 n2 s) (λ c. Refused (call.newResult c))
   pub add-keeps : (x t : List ℕ) → Keeps (call.addRun x t) (λ c. Refused (call.addResult c))
+  pub remove-keeps : (x t : List ℕ) → Keeps (call.removeRun x t) (λ c. Refused (call.removeResult c))
   pub weighing-keeps : (n p : ℕ) (s : List ℕ) → Keeps (call.weightsRun n p s) (λ c. Refused (call.weightsResult c))
   pub reliability-keeps : (t : List ℕ) (p1 p2 : ℕ) → Keeps (call.rateRun t p1 p2) (λ c. Unit)
   pub writer-keeps : (g : Given) (s : List ℕ) → Keeps (call.writeRun g s) (λ c. Refused (call.writeResult c))

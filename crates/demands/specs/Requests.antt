@@ -1,13 +1,15 @@
 -- THE REQUESTS OF DOCUMENT 02, closed: one record each, in 02's order, each field under the sentence that it states; in front of a record the words that it
--- needs beside the page's, behind it an instance. What a request changes of the three demands stands in Demands.antt. Proofs: proofs/ (request1; failing-ends).
+-- needs beside the page's, behind it an instance. What a request changes of the three demands stands in Demands.antt. Proofs: proofs/ (request1, request2;
+-- instances failing-ends, taken-back).
 use mathlib.Core.Path.{_≡_}
-use mathlib.Core.Logic.{_⊎_}
+use mathlib.Core.Logic.{_↔_, _⊎_}
 use mathlib.Core.Bool.{Bool, not, _||_, cond}
 use mathlib.Core.List.{List, [], _∷_, _++_}
 use Prim.Native.Nat.{ℕ, zero, suc, _+_, _-_, _*_, _≤_}
 use lib.Dec.{T, eqb, ltb}
-use lib.ListN.{length, getD}
+use lib.ListN.{length, getD, take}
 use Rattle.laws.specs.Members.{_∈_, keep}
+use Rattle.laws.specs.Reorder.{With, Reordered}
 use Rattle.answer.specs.Outcome.{Outcome, success, refused, outcome, fillAnswer}
 use Rattle.front.specs.declared.Pair.{Pair}
 use Rattle.record.specs.Record.{listed, recordHolds, longest}
@@ -21,13 +23,18 @@ use Rattle.writer.specs.Writer.{Given, given, meant, studyBytes, badRoundBytes,
 use Rattle.network.specs.Walk.{visits}
 use Rattle.network.specs.Round.{roundAt, Route, works, RoundHolds}
 use Rattle.search.specs.Search.{searchBytes}
+use Rattle.chance.specs.Chance.{Near}
+use Rattle.soundness.specs.Tally.{tallySize1, tallySize2, rounds, words, cell, Sound}
+use Rattle.tally.specs.Calls.{addTests, removable, removeTests}
 use Rattle.lines.specs.Text.{sizesLine, frontLine, refusedLine}
 use Rattle.lines.specs.Report.{byAnswer, countLines, tallyAfter, roundAnswer, freshFor, maxInput, reportOpens, reportLines}
 use Rattle.plan.specs.Plan.{Plan, searched, series, parallel, PlanSized}
-use Rattle.plan.specs.Calls.{Searched, Built}
-use Rattle.samples.specs.Table.{ringArcs, ringFile}
+use Rattle.plan.specs.Calls.{Through, Searched, Built}
+use Rattle.survival.specs.Calls.{Tallied, Move, adding, removing, Moved, RemovesSucceed, AllSearched, Rating}
+use Rattle.survival.specs.Counts.{Count, HoldsWith}
+use Rattle.samples.specs.Table.{ringArcs, ringFile, ring}
 use Rattle.kinds.specs.Kinds as call
-use Rattle.demands.specs.Terms.{First, None, Answers, Fills, classOf, RoundRecord, Wrote}
+use Rattle.demands.specs.Terms.{First, None, Answers, Fills, classOf, RoundRecord, LoweredTally, Wrote}
 
 -- ======== S-1 ENDS THAT CAN FAIL
 -- ---- the lists of tests before it: document 01's, with 7, "s or t not class 0", in its place
@@ -120,6 +127,7 @@ pub record Request1 : Type 0 where
   pub side-7 : (c : call.ParallelCall) → call.parallelResult c ≡ refused 7 → ⊥
   pub fresh-7 : (c : call.NewCall) → call.newResult c ≡ refused 7 → ⊥
   pub add-7 : (c : call.AddCall) → call.addResult c ≡ refused 7 → ⊥
+  pub remove-7 : (c : call.RemoveCall) → call.removeResult c ≡ refused 7 → ⊥
   pub ageing-7 : (c : call.AgeingCall) → call.ageingResult c ≡ refused 7 → ⊥
   pub weighing-7 : (c : call.WeightsCall) → call.weightsResult c ≡ refused 7 → ⊥
   pub reliability-7 : (c : call.RateCall) → call.rateResult c ≡ refused 7 → ⊥
@@ -156,3 +164,68 @@ pub record FailingEnds : Type 0 where
   pub target-failed : RoundHolds (studyOf (studyBytes failingRing)) 0 0 3 → ⊥
   -- and the ring of document 01 is a study whose ends never fail
   pub kept : EndsNeverFail (studyOf ringFile)
+
+-- ======== S-2 A ROUND TAKEN BACK
+-- `remove` is take. That it can be made on every input and ends, and changes nothing where it is refused, and that "M falls by 1 and each cell where the
+-- front holds falls by 1" (`LoweredTally`), is in Demand1. `Moved n1 n2 ms left t` (survival/specs/Calls.antt): t is a tally after the adds and removes ms,
+-- refused calls in between, and `left` the fronts that were added and not taken
+pub record Remaining (n1 n2 : ℕ) (ms : List Move) (left : List (List ℕ)) (t : List ℕ) (m : Moved n1 n2 ms left t) : Type 0 where
+  -- "every take succeeds"
+  pub succeed : RemovesSucceed n1 n2 ms left t m
+  -- "and the tally is that of the adds that remain": word for word, in whatever order they are made,
+  pub same : (xs : List (List ℕ)) (u : List ℕ) → Reordered left xs → Tallied n1 n2 xs u → take (words n1 n2) t ≡ take (words n1 n2) u
+  -- which they can be; and each front that was added and not yet taken can be taken next
+  pub remain : (xs : List (List ℕ)) → Reordered left xs → (u : List ℕ) × Tallied n1 n2 xs u
+  pub next : (x : List ℕ) (rest : List (List ℕ)) → With x rest left → (u : List ℕ) × Moved n1 n2 (removing x ∷ ms) rest u
+  -- so, as after adds alone (Demand2): its sizes are those asked for, M is the number of adds that remain, a cell the number of their fronts that hold there
+  pub sizes : (tallySize1 t ≡ n1) × (tallySize2 t ≡ n2)
+  pub many : rounds t ≡ length left
+  pub cells : (l1 l2 : ℕ) → l1 ≤ n1 → l2 ≤ n2 → Count (λ x. T (recordHolds x (n1 - l1) (n2 - l2))) left (cell t l1 l2)
+  pub sound : Sound t
+  -- where the fronts are those of searched rounds, a cell is the number of remaining rounds that direct removal finds joined, and reliability is as near as
+  -- ever to the formula on these counts
+  pub counts : (qs : List (List ℕ × ℕ)) → AllSearched qs left → (l1 l2 : ℕ) → l1 ≤ n1 → l2 ≤ n2 → Count (HoldsWith n1 n2 l1 l2) qs (cell t l1 l2)
+  pub near-rounds : (qs : List (List ℕ × ℕ)) → AllSearched qs left
+      → (by-removal : ℕ → ℕ → ℕ) → ((l1 l2 : ℕ) → l1 ≤ n1 → l2 ≤ n2 → Count (HoldsWith n1 n2 l1 l2) qs (by-removal l1 l2))
+      → (p1 p2 v k r : ℕ) → Rating t p1 p2 v k r → (k ≡ length qs) × Near n1 n2 p1 p2 by-removal v k r
+
+pub record Request2 : Type 0 where
+  -- "For every list of adds and takes after a fresh tally, in which every add succeeds and each take follows an add of the same front not yet taken"
+  pub remaining : (n1 n2 : ℕ) (ms : List Move) (left : List (List ℕ)) (t : List ℕ) (m : Moved n1 n2 ms left t) → Remaining n1 n2 ms left t m
+  -- "Adding back what was taken restores the words.": on every tally where a take succeeds, all words of the slice, through refused calls in between
+  pub restores : (c : call.RemoveCall) → call.removeResult c ≡ success (0 ∷ []) → (d : call.AddCall) → call.addRecord d ≡ call.removeRecord c
+      → Through (call.removeLeft c) (call.addLent d) → (call.addResult d ≡ success (0 ∷ [])) × (call.addLeft d ≡ call.removeLent c)
+  -- refused calls in between, takes and adds among them, change nothing
+  pub refused-stays : (s u : List ℕ) → Through s u → s ≡ u
+  -- "Take makes add's tests without 24 .. 31, after 23"; "and returns 0 on success" is Demand1's `remove`
+  pub tests : (r t : List ℕ) → removeTests r t ≡ exceptNumber 24 (addTests r t) ++ (31, not (removable r t)) ∷ []
+  -- "if M or a cell to be lowered is 0, or the outcome isn't sound": there is no sound tally that becomes this one where its M, and its cells where the
+  -- front holds, are raised by 1
+  pub number-31 : (c : call.RemoveCall) → let r = call.removeRecord c in let t = call.removeLent c in
+      (call.removeResult c ≡ refused 31) ↔ (None (exceptNumber 24 (addTests r t)) × ((x : List ℕ) → LoweredTally r t x → Sound x → ⊥))
+
+-- the sample ring's front added, added, taken, added
+abbrev pub ringMoves : List Move
+ringMoves = adding ring ∷ removing ring ∷ adding ring ∷ adding ring ∷ []
+
+-- 31 for this front and this tally
+abbrev pub Refuses31 : List ℕ → List ℕ → Type 0
+Refuses31 r t = (c : call.RemoveCall) → call.removeRecord c ≡ r → call.removeLent c ≡ t → call.removeResult c ≡ refused 31
+
+-- two fronts of class sizes 1 and 1: one that holds at (0, 0) alone, and one that holds nowhere
+abbrev pub firstAlone : List ℕ
+firstAlone = 1 ∷ 1 ∷ 1 ∷ 1 ∷ 1 ∷ []
+
+abbrev pub nowhere : List ℕ
+nowhere = 1 ∷ 1 ∷ 0 ∷ []
+
+pub record TakenBack : Type 0 where
+  -- two rounds remain: M and each cell are twice those of the ring's one round; the word past the cells is as it was
+  pub moved : Moved 2 2 ringMoves (ring ∷ ring ∷ []) (2 ∷ 2 ∷ 2 ∷ 0 ∷ 0 ∷ 2 ∷ 0 ∷ 2 ∷ 2 ∷ 2 ∷ 2 ∷ 2 ∷ 7 ∷ [])
+  -- 31 by each cause alone: M is 0, and no cell is to be lowered
+  pub no-rounds : Refuses31 nowhere (1 ∷ 1 ∷ 0 ∷ 0 ∷ 0 ∷ 0 ∷ 0 ∷ [])
+  -- a cell to be lowered is 0
+  pub no-cell : Refuses31 firstAlone (1 ∷ 1 ∷ 2 ∷ 0 ∷ 0 ∷ 0 ∷ 0 ∷ [])
+  -- the outcome is not sound: a cell falls as l1 grows; a cell is above M
+  pub falls : Refuses31 firstAlone (1 ∷ 1 ∷ 2 ∷ 0 ∷ 1 ∷ 0 ∷ 1 ∷ [])
+  pub above-m : Refuses31 nowhere (1 ∷ 1 ∷ 2 ∷ 0 ∷ 0 ∷ 0 ∷ 2 ∷ [])

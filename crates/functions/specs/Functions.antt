@@ -35,6 +35,9 @@ use Rattle.medlarbrace.proofs.tallies.medlarbrace_tally_new.Symbol as new-symbo
 use Rattle.medlarbrace.proofs.tallies.medlarbrace_tally_add.Kinds as add-kinds
 use Rattle.medlarbrace.proofs.tallies.medlarbrace_tally_add.Reads as add-reads
 use Rattle.medlarbrace.proofs.tallies.medlarbrace_tally_add.Symbol as add-symbol
+use Rattle.medlarbrace.proofs.tallies.medlarbrace_tally_remove.Kinds as remove-kinds
+use Rattle.medlarbrace.proofs.tallies.medlarbrace_tally_remove.Reads as remove-reads
+use Rattle.medlarbrace.proofs.tallies.medlarbrace_tally_remove.Symbol as remove-symbol
 use Rattle.medlarbrace.proofs.tallies.medlarbrace_ageing.Kinds as ageing-kinds
 use Rattle.medlarbrace.proofs.tallies.medlarbrace_ageing.Reads as ageing-reads
 use Rattle.medlarbrace.proofs.tallies.medlarbrace_ageing.Symbol as ageing-symbol
@@ -87,6 +90,10 @@ newFunction n1 n2 t = run 1 (number w32 n1 ∷ number w32 n2 ∷ mutable u32 0 t
 abbrev pub addFunction : List ℕ → List ℕ → Run
 addFunction x t = run 2 (shared u8 0 tt x ∷ mutable u32 1 tt t ∷ []) (value add-kinds.r) add-reads.Asked add-reads.Learnt add-symbol.routine
 
+-- medlarbrace_tally_remove(record, tally)
+abbrev pub removeFunction : List ℕ → List ℕ → Run
+removeFunction x t = run 2 (shared u8 0 tt x ∷ mutable u32 1 tt t ∷ []) (value remove-kinds.r) remove-reads.Asked remove-reads.Learnt remove-symbol.routine
+
 -- medlarbrace_ageing(age, chance)
 abbrev pub ageingFunction : ℕ → ℕ → Run
 ageingFunction y chance = run 1 (number w64 y ∷ place u32 0 tt chance ∷ []) (value ageing-kinds.r) ageing-reads.Asked ageing-reads.Learnt ageing-symbol.routine
@@ -133,11 +140,12 @@ pub record EveryFunction : Type 0 where
   pub parallel-ends : (y z out : List ℕ) (k : ℕ) → AlwaysEnds (parallelFunction y z out k)
   pub new-ends : (n1 n2 : ℕ) (t : List ℕ) → AlwaysEnds (newFunction n1 n2 t)
   pub add-ends : (x t : List ℕ) → AlwaysEnds (addFunction x t)
+  pub remove-ends : (x t : List ℕ) → AlwaysEnds (removeFunction x t)
   pub ageing-ends : (y chance : ℕ) → AlwaysEnds (ageingFunction y chance)
   pub weights-ends : (n p : ℕ) (out : List ℕ) → AlwaysEnds (weightsFunction n p out)
   pub reliability-ends : (t : List ℕ) (p1 p2 s m r : ℕ) → AlwaysEnds (reliabilityFunction t p1 p2 s m r)
   pub writer-ends : (g : Given) (out : List ℕ) (k : ℕ) → AlwaysEnds (writeFunction g out k)
-  -- what each answers and leaves: for every call of document 01, the function with that call's arguments answers and leaves what the call did; a value of
+  -- what each answers and leaves: for every call, the function with that call's arguments answers and leaves what the call did; a value of
   -- the answer goes where its pointer leads (`result`: the value's place in the answer; what was there, on a refusal)
   pub search-says : (c : call.SearchCall) (k : ℕ) → let a = call.searchResult c in
       Says (searchFunction (call.searchFile c) (call.searchRound c) (call.searchLent c) k) a
@@ -152,6 +160,9 @@ pub record EveryFunction : Type 0 where
       Says (newFunction (call.newSize1 c) (call.newSize2 c) (call.newLent c)) (call.newResult c) (block u32 (call.newLeft c) ∷ [])
   pub add-says : (c : call.AddCall) →
       Says (addFunction (call.addRecord c) (call.addLent c)) (call.addResult c) (block u8 (call.addRecord c) ∷ block u32 (call.addLeft c) ∷ [])
+  pub remove-says : (c : call.RemoveCall) →
+      Says (removeFunction (call.removeRecord c) (call.removeLent c)) (call.removeResult c)
+      (block u8 (call.removeRecord c) ∷ block u32 (call.removeLeft c) ∷ [])
   pub ageing-says : (c : call.AgeingCall) (chance : ℕ) → let a = call.ageingResult c in
       Says (ageingFunction (call.ageingAge c) chance) a (block u32 (result 0 a chance ∷ []) ∷ [])
   pub weights-says : (c : call.WeightsCall) →
@@ -176,6 +187,7 @@ pub record EveryFunction : Type 0 where
   pub parallel-keeps : (y z out : List ℕ) (k : ℕ) → KeepsUnless0 (parallelFunction y z out k)
   pub new-keeps : (n1 n2 : ℕ) (t : List ℕ) → KeepsUnless0 (newFunction n1 n2 t)
   pub add-keeps : (x t : List ℕ) → KeepsUnless0 (addFunction x t)
+  pub remove-keeps : (x t : List ℕ) → KeepsUnless0 (removeFunction x t)
   pub ageing-keeps : (y chance : ℕ) → KeepsUnless0 (ageingFunction y chance)
   pub weights-keeps : (n p : ℕ) (out : List ℕ) → KeepsUnless0 (weightsFunction n p out)
   pub reliability-keeps : (t : List ℕ) (p1 p2 s m r : ℕ) → KeepsUnless0 (reliabilityFunction t p1 p2 s m r)

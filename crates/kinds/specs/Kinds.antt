@@ -1,4 +1,4 @@
--- THE CALLS OF DOCUMENT 01, and their arguments by name. Nothing outside this file reads a call in another way.
+-- THE CALLS OF DOCUMENT 01, and remove of document 02, and their arguments by name. Nothing outside this file reads a call in another way.
 -- From a public function F of a crate C the checker makes modules that a definition may cite:
 --   Rattle.C.proofs.F.Kinds    `ps` and `r`: the kinds of F's parameters, in the order of the source, and of its result
 --   Rattle.C.proofs.F.Reads    F's contract: `Learnt`, all its `ensures`, what every caller is told; `Asked`, all its `requires`, what a caller must show
@@ -40,6 +40,9 @@ use Rattle.tally.proofs.new.Symbol as new-symbol
 use Rattle.tally.proofs.add.Kinds as add-kinds
 use Rattle.tally.proofs.add.Reads as add-reads
 use Rattle.tally.proofs.add.Symbol as add-symbol
+use Rattle.tally.proofs.remove.Kinds as remove-kinds
+use Rattle.tally.proofs.remove.Reads as remove-reads
+use Rattle.tally.proofs.remove.Symbol as remove-symbol
 use Rattle.weights.proofs.ageing.Kinds as ageing-kinds
 use Rattle.weights.proofs.ageing.Reads as ageing-reads
 use Rattle.weights.proofs.ageing.Symbol as ageing-symbol
@@ -245,6 +248,28 @@ addResult c = done (c .result)
 
 abbrev pub addRun : List ℕ → List ℕ → Run
 addRun x t = run 2 (shared u8 0 tt x ∷ mutable u32 1 tt t ∷ []) (value add-kinds.r) add-reads.Asked add-reads.Learnt add-symbol.routine
+
+-- ---- REMOVE (02: take): tally::remove(record, tally)
+abbrev pub RemoveCall : Type 0
+RemoveCall = Call 2 remove-kinds.ps remove-kinds.r remove-reads.Learnt
+
+abbrev pub removeRecord : RemoveCall → List ℕ
+removeRecord c = c .args .0 .now
+
+abbrev pub removeLent : RemoveCall → List ℕ
+removeLent c = c .args .1 .0 .now
+
+abbrev pub removeRecordAfter : RemoveCall → List ℕ
+removeRecordAfter c = after c .0 .now
+
+abbrev pub removeLeft : RemoveCall → List ℕ
+removeLeft c = after c .1 .0 .now
+
+abbrev pub removeResult : RemoveCall → Outcome
+removeResult c = done (c .result)
+
+abbrev pub removeRun : List ℕ → List ℕ → Run
+removeRun x t = run 2 (shared u8 0 tt x ∷ mutable u32 1 tt t ∷ []) (value remove-kinds.r) remove-reads.Asked remove-reads.Learnt remove-symbol.routine
 
 -- ---- AGEING: weights::ageing(age)
 abbrev pub AgeingCall : Type 0

@@ -1,5 +1,5 @@
 -- LAWS of tests, lists and sums: a few definitions that other specs use (`flag`, `_∈_`, `any`, `all`, `keep`, `concatMap`, `Pairwise`, `firstTrue`, `listTo`,
--- `sumTo`, `every`), and the facts about them. Here, and in no other crate, proofs stand in specs/: a law is read beside what it is about.
+-- `sumTo`, `every`, `With`, `Reordered`), and the facts about them. Here, and in no other crate, proofs stand in specs/: a law is read beside what it is about.
 pub mod Tests
 pub mod Members
 pub mod Pairwise
@@ -8,3 +8,4 @@ pub mod Lists
 pub mod Parts
 pub mod Sums
 pub mod Every
+pub mod Reorder

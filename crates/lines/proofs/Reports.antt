@@ -11,15 +11,15 @@ use lib.Seq.{take-suc, take-length}
 use borrow.Author.Tests.{lt-ltb, le-ltb, ltb-true, ltb-false}
 use Rattle.limits.specs.Limits.{maxRounds, maxClass}
 use Rattle.laws.specs.Members.{concatMap, concatMap-snoc}
-use Rattle.answer.specs.Outcome.{Outcome, success, refused}
-use Rattle.answer.proofs.Outcomes.{refused-apart}
+use Rattle.answer.specs.Outcome.{Outcome, success, refused, succeeds}
+use Rattle.answer.proofs.Outcomes.{refused-apart, outcome-values}
 use Rattle.study.specs.Calls.{openedRounds, openedSize1, openedSize2, openAnswer}
 use Rattle.study.proofs.Lookups.{open-values, open-fits, open-parts}
 use Rattle.search.specs.Search.{searchBytes}
 use Rattle.soundness.specs.Tally.{headWords, tallySize2, width, words, largest}
 use Rattle.soundness.proofs.States.{cells-most}
-use Rattle.tally.specs.Calls.{newAnswer, addOut}
-use Rattle.tally.specs.Adds.{succeeds, Tallies}
+use Rattle.tally.specs.Calls.{newAnswer, addTests, addAnswer, addOut}
+use Rattle.tally.specs.Steps.{Tallies}
 use Rattle.tally.proofs.News.{new-done}
 use Rattle.tally.proofs.Runs.{new-tallies, add-tallies}
 use Rattle.lines.specs.Text.{sizesLine, countLine, refusedLine}
@@ -237,9 +237,14 @@ module _ (f v : List ℕ) (o : reportOpens f ≡ success v) where
     pub records : List (List ℕ)
     pub is : Tallies blank t n1 n2 records
 
+  -- after an add, whatever it answered
+  add-counted : (x t : List ℕ) (a : Outcome) → addAnswer x t ≡ a → Counted t → Counted (addOut x t)
+  add-counted x t (refused n) e c = rw e c
+  add-counted x t (success w) e c = record { records = x ∷ c .records; is = add-tallies (c .is) x (e ∙ ap success (sym (outcome-values (addTests x t) (0 ∷ []) w e))) }
+
   counted : (r : ℕ) → Counted (tallyAfter f fresh r)
   counted zero = record { records = []; is = new-tallies n1 n2 blank begun }
-  counted (suc r) = record { records = _; is = add-tallies (searchBytes f r) (counted r .is) }
+  counted (suc r) = add-counted (searchBytes f r) (tallyAfter f fresh r) (addAnswer (searchBytes f r) (tallyAfter f fresh r)) refl (counted r)
 
   -- the row of l1 is in the slice
   pub count-fits : (i l1 : ℕ) (t : List ℕ) → i ≡ suc (M + l1) → Due f v i t → (l1 ≤ maxClass) × (headWords ≤ length t) × (tallySize2 t ≤ maxClass) × (headWords + l1 * width (tallySize2 t) + width (tallySize2 t) ≤ length t)

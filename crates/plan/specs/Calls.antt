@@ -14,6 +14,7 @@ pub data Vain : List ℕ → List ℕ → Type 0 where
   side : (c : call.ParallelCall) (n : ℕ) → call.parallelResult c ≡ refused n → Vain (call.parallelLent c) (call.parallelLeft c)
   fresh : (c : call.NewCall) (n : ℕ) → call.newResult c ≡ refused n → Vain (call.newLent c) (call.newLeft c)
   add : (c : call.AddCall) (n : ℕ) → call.addResult c ≡ refused n → Vain (call.addLent c) (call.addLeft c)
+  remove : (c : call.RemoveCall) (n : ℕ) → call.removeResult c ≡ refused n → Vain (call.removeLent c) (call.removeLeft c)
   weigh : (c : call.WeightsCall) (n : ℕ) → call.weightsResult c ≡ refused n → Vain (call.weightsLent c) (call.weightsLeft c)
   write : (c : call.WriteCall) (n : ℕ) → call.writeResult c ≡ refused n → Vain (call.writeLent c) (call.writeLeft c)
 

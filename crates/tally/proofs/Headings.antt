@@ -1,13 +1,13 @@
 -- The words in front of a tally's cells: the one proof that knows them.
-use mathlib.Core.Path.{_≡_, refl, sym, ap, _∙_}
+use mathlib.Core.Path.{_≡_, refl, sym, ap, ap₂, _∙_}
 use mathlib.Core.List.{List, [], _∷_, _++_, append-assoc}
-use Prim.Native.Nat.{ℕ, _+_, _*_, _≤_}
+use Prim.Native.Nat.{ℕ, _+_, _*_, _≤_, _<_}
 use native.Mathlib.Omega.{arith}
-use lib.ListN.{length, getD, set, take, drop, replicate, length-append, take-append-drop, replicate-append-replicate}
-use lib.Seq.{take-at, getD-append-add}
+use lib.ListN.{length, getD, set, take, drop, replicate, length-append, length-drop, take-append-drop, replicate-append-replicate}
+use lib.Seq.{take-at, getD-append-add, getD-drop, drop-drop}
 use Rattle.soundness.specs.Tally.{headWords, roundsPlace, tallySize1, tallySize2, rounds, width, words, cell}
 use Rattle.tally.specs.Cells.{cellRows, heading, tallyOf}
-use Rattle.tally.proofs.Tables.{table-length, table-zero, table-at}
+use Rattle.tally.proofs.Tables.{table-length, table-zero, table-at, table-same, table-take}
 
 heading-length : (n1 n2 m : ℕ) (c : ℕ → ℕ → ℕ) → length (heading n1 n2 m c) ≡ headWords
 heading-length n1 n2 m c = refl
@@ -54,3 +54,20 @@ tally-new n1 n2 t =
     ap (λ x. set (set (x ++ past) 0 n1) 1 n2) (sym (replicate-append-replicate headWords k 0) ∙ ap (λ x. replicate headWords 0 ++ x) (sym (table-zero (n1 + 1) (width n2))))
     ∙ ap (λ x. set (set x 0 n1) 1 n2) (append-assoc (replicate headWords 0) cells past) ∙ heading-sizes n1 n2 none (cells ++ past) ∙ sym (append-assoc (heading n1 n2 0 none) cells past)
     ∙ ap (λ x. tallyOf n1 n2 0 none ++ drop x t) (sym (tally-length n1 n2 0 none))
+
+-- ---- a tally is told by its sizes, M, its cells and the words past them
+pub tally-same : (n1 n2 m : ℕ) (c : ℕ → ℕ → ℕ) (l t : List ℕ) → tallySize1 t ≡ n1 → tallySize2 t ≡ n2 → rounds t ≡ m → words n1 n2 ≤ length t
+    → ((l1 l2 : ℕ) → l1 ≤ n1 → l2 ≤ n2 → c l1 l2 ≡ cell t l1 l2) → l ≡ drop (words n1 n2) t → tallyOf n1 n2 m c ++ l ≡ t
+tally-same n1 n2 m c l t e f g room cells past =
+    let w = width n2 in
+    append-assoc (heading n1 n2 m c) (cellRows (n1 + 1) w c) l
+    ∙ ap₂ _++_ (sym (heading-of t (omega arith) ∙ heading-same e f g))
+    (ap₂ _++_ (table-same (n1 + 1) w c (λ i j. getD (drop headWords t) (i * w + j) 0) at ∙ table-take (n1 + 1) w (drop headWords t) (omega (arith, length-drop headWords t)))
+    (past ∙ sym (drop-drop ((n1 + 1) * w) headWords t)) ∙ take-append-drop ((n1 + 1) * w) (drop headWords t))
+    ∙ take-append-drop headWords t
+  where
+    heading-same : {a b k : ℕ} → a ≡ n1 → b ≡ n2 → k ≡ m → heading a b k (cell t) ≡ heading n1 n2 m c
+    heading-same e f g = rw (e, f, g) refl
+
+    at : (i j : ℕ) → i < n1 + 1 → j < width n2 → c i j ≡ getD (drop headWords t) (i * width n2 + j) 0
+    at i j h k = cells i j (omega arith) (omega arith) ∙ ap (λ n. getD t (headWords + (i * width n + j)) 0) f ∙ sym (getD-drop headWords t (i * width n2 + j) 0)

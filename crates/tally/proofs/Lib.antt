@@ -1,7 +1,9 @@
 pub mod Tables
 pub mod Headings
+pub mod Wholes
 pub mod News
 pub mod Peaks
-pub mod Raises
-pub mod Adds
+pub mod Readies
+pub mod Changes
+pub mod Edges
 pub mod Runs

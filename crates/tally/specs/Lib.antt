@@ -1,4 +1,3 @@
 pub mod Cells
 pub mod Calls
-pub mod Adds
 pub mod Steps

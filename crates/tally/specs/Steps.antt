@@ -1,33 +1,22 @@
 -- STEPS: what proofs and the contracts between our crates speak of. Nobody has to believe these: no promise to a caller cites them.
 use mathlib.Core.Path.{_≡_}
-use mathlib.Core.Bool.{cond}
+use mathlib.Core.Bool.{Bool, cond, _&&_, _||_}
 use mathlib.Core.List.{List, [], _∷_, _++_}
-use Prim.Native.Nat.{ℕ, _+_, _*_, _≤_, _<_, max}
-use lib.Dec.{T, eqb, ltb}
+use Prim.Native.Nat.{ℕ, _+_, _-_, _*_, _≤_, _<_, max}
+use lib.Dec.{T, eqb, leb, ltb}
 use lib.ListN.{length, getD, drop, take}
-use Rattle.limits.specs.Limits.{maxRounds}
-use Rattle.record.specs.Record.{isRecord, recordSize1, recordSize2}
-use Rattle.soundness.specs.Tally.{width}
+use Rattle.record.specs.Record.{isRecord, listed, recordHolds, recordSize1, recordSize2}
+use Rattle.soundness.specs.Tally.{headWords, tallySize1, tallySize2, rounds, width, words, cell, Sound}
+use Rattle.laws.specs.Tests.{flag}
 use Rattle.laws.specs.Lists.{listTo}
+use Rattle.laws.specs.Every.{every}
+use Rattle.answer.specs.Outcome.{Outcome, outcome}
 use Rattle.front.specs.declared.Pair.{Pair}
-use Rattle.tally.specs.Calls.{held}
-use Rattle.tally.specs.Cells.{cellRows}
+use Rattle.tally.specs.Calls.{readyTests}
+use Rattle.tally.specs.Cells.{cellRows, tallyOf}
 
--- the cells alone, each raised by 1 where the record holds
-abbrev pub raisedCells : List ℕ → ℕ → ℕ → List ℕ → List ℕ
-raisedCells r n1 n2 cells = cellRows (n1 + 1) (width n2) (λ l1 l2. getD cells (l1 * width n2 + l2) 0 + held r n1 n2 l1 l2) ++ drop ((n1 + 1) * width n2) cells
-
--- a record whose cells may be raised
-pub record Raisable (cells r : List ℕ) (n1 n2 : ℕ) : Type 0 where
-  -- a front record
-  pub is : T (isRecord r)
-  -- of these class sizes
-  pub one : recordSize1 r ≡ n1
-  pub two : recordSize2 r ≡ n2
-  -- room for every cell
-  pub room : (n1 + 1) * width n2 ≤ length cells
-  -- no cell above the largest M
-  pub below : (i : ℕ) → i < (n1 + 1) * width n2 → getD cells i 0 ≤ maxRounds
+abbrev pub readyAnswer : List ℕ → List ℕ → Outcome
+readyAnswer r t = outcome (readyTests r t) (0 ∷ [])
 
 -- ---- heights of a list of pairs, as the code has them
 -- the largest p2 of the pairs with p1 above a, and of those with p1 = x; 0 where there is none
@@ -39,6 +28,92 @@ abbrev pub peakAt : List Pair → ℕ → ℕ
 peakAt [] x = 0
 peakAt (p ∷ l) x = max (cond (eqb (p .p1 .0) x) (p .p2 .0) 0) (peakAt l x)
 
--- the n cells from a place on raised by 1
-abbrev pub bumped : List ℕ → ℕ → ℕ → List ℕ
-bumped l from n = take from l ++ listTo n (λ i. getD l (from + i) 0 + 1) ++ drop (from + n) l
+-- ---- add and remove as the code has them: `up` more and then `down` fewer in M and in each cell where the record holds
+abbrev pub changedWord : ℕ → ℕ → ℕ → ℕ
+changedWord up down x = x + up - down
+
+-- it stays a word, and does not fall below 0
+abbrev pub CanChange : ℕ → ℕ → ℕ → Type 0
+CanChange up down x = (x + up < 4294967296) × (down ≤ x + up)
+
+-- the n words from a place on changed
+abbrev pub changedPart : ℕ → ℕ → List ℕ → ℕ → ℕ → List ℕ
+changedPart up down l from n = take from l ++ listTo n (λ i. changedWord up down (getD l (from + i) 0)) ++ drop (from + n) l
+
+-- a record of these class sizes, and room for the cells
+pub record Fitting (cells r : List ℕ) (n1 n2 : ℕ) : Type 0 where
+  pub is : T (isRecord r)
+  pub one : recordSize1 r ≡ n1
+  pub two : recordSize2 r ≡ n2
+  pub room : (n1 + 1) * width n2 ≤ length cells
+
+-- the cells alone
+abbrev pub CellsCanChange : ℕ → ℕ → List ℕ → ℕ → ℕ → List ℕ → Type 0
+CellsCanChange up down r n1 n2 cells =
+    (l1 l2 : ℕ) → l1 ≤ n1 → l2 ≤ n2 → T (recordHolds r (n1 - l1) (n2 - l2)) → CanChange up down (getD cells (l1 * width n2 + l2) 0)
+
+abbrev pub changedCell : ℕ → ℕ → List ℕ → ℕ → ℕ → ℕ → ℕ → ℕ → ℕ
+changedCell up down r n1 n2 l1 l2 x = cond (recordHolds r (n1 - l1) (n2 - l2)) (changedWord up down x) x
+
+abbrev pub changedCells : ℕ → ℕ → List ℕ → ℕ → ℕ → List ℕ → List ℕ
+changedCells up down r n1 n2 cells =
+    cellRows (n1 + 1) (width n2) (λ l1 l2. changedCell up down r n1 n2 l1 l2 (getD cells (l1 * width n2 + l2) 0)) ++ drop ((n1 + 1) * width n2) cells
+
+-- a whole tally
+pub record Changing (up down : ℕ) (r t : List ℕ) : Type 0 where
+  -- the tally has its head, and the record fits
+  pub long : headWords ≤ length t
+  pub fits : Fitting (drop headWords t) r (tallySize1 t) (tallySize2 t)
+  -- M and the cells where the record holds can be changed
+  pub many : CanChange up down (rounds t)
+  pub each : CellsCanChange up down r (tallySize1 t) (tallySize2 t) (drop headWords t)
+
+abbrev pub changedTally : ℕ → ℕ → List ℕ → List ℕ → List ℕ
+changedTally up down r t =
+    let n1 = tallySize1 t in
+    let n2 = tallySize2 t in
+    tallyOf n1 n2 (changedWord up down (rounds t)) (λ l1 l2. changedCell up down r n1 n2 l1 l2 (cell t l1 l2)) ++ drop (words n1 n2) t
+
+-- ---- the test of 31 as the code makes it: only where the record begins to hold can the outcome fall
+-- each of `count` cells from `at` on is below the one `step` places later
+abbrev pub climbsBy : List ℕ → ℕ → ℕ → ℕ → Bool
+climbsBy cells at step count = every count (λ i. ltb (getD cells (at + i) 0) (getD cells (at + i + step) 0))
+
+-- in a row of w from `at` on: the first of the last z cells is above 0 and above the cell in front of it
+abbrev pub startsRow : List ℕ → ℕ → ℕ → ℕ → Bool
+startsRow cells at w z =
+    leb z 0 || cond (eqb z w) (ltb 0 (getD cells (at + (w - z)) 0)) (ltb (getD cells (at + (w - z) - 1) 0) (getD cells (at + (w - z)) 0))
+
+-- and each of the last z cells but y is above the cell of the row in front
+abbrev pub rowReady : List ℕ → ℕ → ℕ → ℕ → ℕ → Bool
+rowReady cells at w y z = startsRow cells at w z && (leb at 0 || climbsBy cells (at - z) w (z - y))
+
+abbrev pub rowTest : List ℕ → ℕ → ℕ → List ℕ → ℕ → Bool
+rowTest r n1 n2 cells l1 = rowReady cells (l1 * width n2) (width n2) (peak (listed r) (n1 + 1 - l1)) (peak (listed r) (n1 - l1))
+
+-- ---- the tally of a list of records, in whatever order
+-- how many of them hold at (a, b)
+abbrev pub holding : List (List ℕ) → ℕ → ℕ → ℕ
+holding [] a b = 0
+holding (r ∷ rs) a b = flag (recordHolds r a b) + holding rs a b
+
+-- at the front of a slice that was t₀
+pub record Tallies (t₀ t : List ℕ) (n1 n2 : ℕ) (rs : List (List ℕ)) : Type 0 where
+  -- of these class sizes
+  pub one : tallySize1 t ≡ n1
+  pub two : tallySize2 t ≡ n2
+  -- M is the number of records
+  pub many : rounds t ≡ length rs
+  -- a cell is the number of records that hold there
+  pub cells : (l1 l2 : ℕ) → l1 ≤ n1 → l2 ≤ n2 → cell t l1 l2 ≡ holding rs (n1 - l1) (n2 - l2)
+  -- it is sound
+  pub sound : Sound t
+  -- words past the cells are as they were
+  pub past : drop (words n1 n2) t ≡ drop (words n1 n2) t₀
+  -- the slice is as long, and has room
+  pub long : length t ≡ length t₀
+  pub room : words n1 n2 ≤ length t₀
+
+-- a record that fits the tally
+abbrev pub Fits : ℕ → ℕ → List ℕ → Type 0
+Fits n1 n2 r = T (isRecord r) × (recordSize1 r ≡ n1) × (recordSize2 r ≡ n2)

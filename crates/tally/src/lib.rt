@@ -9,17 +9,19 @@ use soundness::FULL;
 use soundness::HEAD;
 use soundness::ROUNDS;
 ghost use mathlib.Core.Path.{_≡_};
-ghost use mathlib.Core.Bool.{true};
+ghost use mathlib.Core.Bool.{_||_};
 ghost use mathlib.Core.List.{[], _∷_, _++_};
 ghost use Prim.Native.Nat.{ℕ, _+_, _*_, _≤_, _<_, max};
-ghost use lib.Dec.{T};
+ghost use lib.Dec.{T, ltb};
 ghost use lib.ListN.{length, getD, set, drop, replicate};
-ghost use Rattle.limits.specs.Limits.{maxRounds, maxPosition};
+ghost use Rattle.limits.specs.Limits.{maxPosition};
+ghost use Rattle.laws.specs.Every.{every};
 ghost use Rattle.answer.specs.Outcome.{success, done};
-ghost use Rattle.record.specs.Record.{listed, isRecord};
-ghost use Rattle.soundness.specs.Tally.{headWords, roundsPlace, rounds, stateAnswer};
-ghost use Rattle.tally.specs.Steps.{bumped, peakAt, Raisable, raisedCells};
-ghost use Rattle.tally.specs.Calls.{newAnswer, newOut, fitsTally, addAnswer, addOut};
+ghost use Rattle.record.specs.Record.{listed, isRecord, recordHolds};
+ghost use Rattle.soundness.specs.Tally.{headWords, roundsPlace, rounds, width};
+ghost use Rattle.tally.specs.Steps.{peakAt, readyAnswer, climbsBy, startsRow, rowReady, rowTest};
+ghost use Rattle.tally.specs.Steps.{changedWord, CanChange, changedPart, Fitting, CellsCanChange, changedCells, Changing, changedTally};
+ghost use Rattle.tally.specs.Calls.{newAnswer, newOut, fitsTally, addAnswer, addOut, removable, removeAnswer, removeOut};
 
 // ---- new
 // Zeros in the first n places.
@@ -54,19 +56,7 @@ pub fn new(n1: u32, n2: u32, tally: &mut [u32]) -> Done
     Done::Done
 }
 
-// ---- add
-// 1 more in each of n cells from a place on.
-fn bump(cells: &mut [u32], from: usize, n: usize)
-    requires { ⌜ (from + n ≤ length (now cells)) × ((i : ℕ) → i < n → getD (now cells) (from + i) 0 ≤ maxRounds) ⌝ }
-    ensures { λ _. ⌜ now (cells .exit) ≡ bumped (now (cells .entry)) from n ⌝ }
-{
-    let mut i = 0;
-    while i < n {
-        cells[from + i] += 1;
-        i += 1;
-    }
-}
-
+// ---- what add and remove share
 fn larger(x: Pos2, y: Pos2) -> Pos2
     ensures { λ r. ⌜ r .0 ≡ max (x .0) (y .0) ⌝ }
 {
@@ -90,11 +80,25 @@ fn heights(record: &[u8]) -> [u8; MAX_POSITION + 1]
     heights
 }
 
-// 1 more in each cell where the record holds, a row at a time: with fewer failures of class 1 the
+// `up` more and then `down` fewer in each of n cells from a place on: one loop for both calls,
+// without a branch.
+fn change_part(cells: &mut [u32], from: usize, n: usize, up: u32, down: u32)
+    requires { ⌜ (from + n ≤ length (now cells)) × ((i : ℕ) → i < n → CanChange up down (getD (now cells) (from + i) 0)) ⌝ }
+    ensures { λ _. ⌜ now (cells .exit) ≡ changedPart up down (now (cells .entry)) from n ⌝ }
+{
+    let mut i = 0;
+    while i < n {
+        let k = from + i;
+        cells[k] = cells[k] + up - down;
+        i += 1;
+    }
+}
+
+// Changes each cell where the record holds, a row at a time: with fewer failures of class 1 the
 // height is no lower.
-fn raise(cells: &mut [u32], record: &[u8], n1: u8, n2: u8)
-    requires { ⌜ Raisable (now cells) (now «record») n1 n2 ⌝ }
-    ensures { λ _. ⌜ now (cells .exit) ≡ raisedCells (now («record» .entry)) n1 n2 (now (cells .entry)) ⌝ }
+fn change_rows(cells: &mut [u32], record: &[u8], n1: u8, n2: u8, up: u32, down: u32)
+    requires { ⌜ Fitting (now cells) (now «record») n1 n2 × CellsCanChange up down (now «record») n1 n2 (now cells) ⌝ }
+    ensures { λ _. ⌜ now (cells .exit) ≡ changedCells up down (now («record» .entry)) n1 n2 (now (cells .entry)) ⌝ }
 {
     let top = heights(record);
     let w = slices::wide(n2) + 1;
@@ -104,10 +108,28 @@ fn raise(cells: &mut [u32], record: &[u8], n1: u8, n2: u8)
     while 0 < x {
         y = larger(y, Pos2(top[x]));
         let k = slices::wide(y.0);
-        bump(cells, at + (w - k), k);
+        change_part(cells, at + (w - k), k, up, down);
         at += w;
         x -= 1;
     }
+}
+
+fn change_rounds(tally: &mut [u32], up: u32, down: u32)
+    requires { ⌜ (headWords ≤ length (now tally)) × CanChange up down (rounds (now tally)) ⌝ }
+    ensures { λ _. ⌜ now (tally .exit) ≡ set (now (tally .entry)) roundsPlace (changedWord up down (rounds (now (tally .entry)))) ⌝ }
+{
+    let m = tally[ROUNDS];
+    tally[ROUNDS] = m + up - down;
+}
+
+// Changes M and each cell where the record holds.
+fn change(record: &[u8], tally: &mut [u32], up: u32, down: u32)
+    requires { ⌜ Changing up down (now «record») (now tally) ⌝ }
+    ensures { λ _. ⌜ now (tally .exit) ≡ changedTally up down (now («record» .entry)) (now (tally .entry)) ⌝ }
+{
+    change_rounds(tally, up, down);
+    let head = record::read_head(record);
+    change_rows(&mut tally[HEAD..], record, head.n1, head.n2, up, down);
 }
 
 // Whether the record has the tally's class sizes.
@@ -121,29 +143,35 @@ fn same_sizes(record: &[u8], tally: &[u32]) -> bool
     same1 & same2
 }
 
-// One round more.
-fn count_round(tally: &mut [u32])
-    requires { ⌜ (headWords ≤ length (now tally)) × (rounds (now tally) ≤ maxRounds) ⌝ }
-    ensures { λ _. ⌜ now (tally .exit) ≡ set (now (tally .entry)) roundsPlace (rounds (now (tally .entry)) + 1) ⌝ }
+// What both test first: numbers 12 and 21 to 23.
+fn ready(record: &[u8], tally: &[u32]) -> Done
+    ensures { λ r. ⌜ done r ≡ readyAnswer (now («record» .entry)) (now (tally .entry)) ⌝ }
 {
-    tally[ROUNDS] += 1;
+    if !record::is_record(record) {
+        return Done::Refused(Refusal::NotRecord);
+    }
+    match soundness::check(tally) {
+        Done::Refused(r) => Done::Refused(r),
+        Done::Done => {
+            if !same_sizes(record, tally) {
+                return Done::Refused(Refusal::TallySizes);
+            }
+            Done::Done
+        }
+    }
 }
 
-// Adds a front record to a sound tally: numbers 23 and 24.
+// ---- add
+// Adds a front record that is ready: number 24.
 fn add_to(record: &[u8], tally: &mut [u32]) -> Done
-    requires { ⌜ (isRecord (now «record») ≡ true) × (stateAnswer (now tally) ≡ success (0 ∷ [])) ⌝ }
+    requires { ⌜ readyAnswer (now «record») (now tally) ≡ success (0 ∷ []) ⌝ }
     ensures answer { λ r. ⌜ done r ≡ addAnswer (now («record» .entry)) (now (tally .entry)) ⌝ }
     ensures slice { λ _. ⌜ now (tally .exit) ≡ addOut (now («record» .entry)) (now (tally .entry)) ⌝ }
 {
-    if !same_sizes(record, tally) {
-        return Done::Refused(Refusal::TallySizes);
-    }
     if tally[ROUNDS] == FULL {
         return Done::Refused(Refusal::TallyFull);
     }
-    count_round(tally);
-    let head = record::read_head(record);
-    raise(&mut tally[HEAD..], record, head.n1, head.n2);
+    change(record, tally, 1, 0);
     Done::Done
 }
 
@@ -152,11 +180,118 @@ pub fn add(record: &[u8], tally: &mut [u32]) -> Done
     ensures answer { λ r. ⌜ done r ≡ addAnswer (now («record» .entry)) (now (tally .entry)) ⌝ }
     ensures slice { λ _. ⌜ now (tally .exit) ≡ addOut (now («record» .entry)) (now (tally .entry)) ⌝ }
 {
-    if !record::is_record(record) {
-        return Done::Refused(Refusal::NotRecord);
-    }
-    match soundness::check(tally) {
+    match ready(record, tally) {
         Done::Refused(r) => Done::Refused(r),
         Done::Done => add_to(record, tally),
+    }
+}
+
+// ---- remove
+// In a sound tally an outcome can go wrong only where the record begins to hold, from one cell to the next or from one
+// row to the next; so only these cells are compared, and nothing is written before the answer is known.
+
+// Whether each of `count` cells from a place on is below the one `step` places later.
+fn climbs(cells: &[u32], at: usize, count: usize, step: usize) -> bool
+    requires { ⌜ at + count + step ≤ length (now cells) ⌝ }
+    ensures { λ r. ⌜ r ≡ climbsBy (now (cells .entry)) at step count ⌝ }
+{
+    let mut all = true;
+    let mut i = 0;
+    while i < count {
+        all = all & (cells[at + i] < cells[at + i + step]);
+        i += 1;
+    }
+    all
+}
+
+// Whether the first of the last z cells of a row of w is above 0 and above the cell in front of it.
+fn starts(cells: &[u32], at: usize, w: usize, z: usize) -> bool
+    requires { ⌜ (z ≤ w) × (at + w ≤ length (now cells)) ⌝ }
+    ensures { λ r. ⌜ r ≡ startsRow (now (cells .entry)) at w z ⌝ }
+{
+    if z == 0 {
+        return true;
+    }
+    let i = at + (w - z);
+    if z == w {
+        return 0 < cells[i];
+    }
+    cells[i - 1] < cells[i]
+}
+
+// Whether a row can be lowered in its last z cells, the row in front of it in its last y.
+fn row_ready(cells: &[u32], at: usize, w: usize, y: usize, z: usize) -> bool
+    requires { ⌜ (y ≤ z) × (z ≤ w) × (at + w ≤ length (now cells)) × (0 < at → w ≤ at) ⌝ }
+    ensures { λ r. ⌜ r ≡ rowReady (now (cells .entry)) at w y z ⌝ }
+{
+    let first = starts(cells, at, w, z);
+    if at == 0 {
+        return first;
+    }
+    first & climbs(cells, at - z, z - y, w)
+}
+
+// Whether each row can be lowered where the record holds.
+fn rows_ready(cells: &[u32], record: &[u8], n1: u8, n2: u8) -> bool
+    requires { ⌜ Fitting (now cells) (now «record») n1 n2 ⌝ }
+    ensures { λ r. ⌜ r ≡ every (n1 + 1) (rowTest (now («record» .entry)) n1 n2 (now (cells .entry))) ⌝ }
+{
+    let top = heights(record);
+    let w = slices::wide(n2) + 1;
+    let mut all = true;
+    let mut y = Pos2(0);
+    let mut at = 0;
+    let mut x = slices::wide(n1) + 1;
+    while 0 < x {
+        let j = slices::wide(y.0);
+        y = larger(y, Pos2(top[x]));
+        let k = slices::wide(y.0);
+        all = all & row_ready(cells, at, w, j, k);
+        at += w;
+        x -= 1;
+    }
+    all
+}
+
+// Whether the record holds with all working, or the last cell is below m.
+fn top_ready(cells: &[u32], record: &[u8], n1: u8, n2: u8, m: u32) -> bool
+    requires { ⌜ Fitting (now cells) (now «record») n1 n2 ⌝ }
+    ensures { λ r. ⌜ r ≡ (recordHolds (now («record» .entry)) 0 0 || ltb (getD (now (cells .entry)) (n1 * width n2 + n2) 0) m) ⌝ }
+{
+    let i = slices::wide(n1) * (slices::wide(n2) + 1) + slices::wide(n2);
+    record::holds(record, 0, 0) | (cells[i] < m)
+}
+
+// Whether M and each cell to be lowered are above 0, and the outcome is sound.
+fn can_remove(record: &[u8], tally: &[u32]) -> bool
+    requires { ⌜ readyAnswer (now «record») (now tally) ≡ success (0 ∷ []) ⌝ }
+    ensures { λ r. ⌜ r ≡ removable (now («record» .entry)) (now (tally .entry)) ⌝ }
+{
+    let head = record::read_head(record);
+    let rows = rows_ready(&tally[HEAD..], record, head.n1, head.n2);
+    rows & top_ready(&tally[HEAD..], record, head.n1, head.n2, tally[ROUNDS])
+}
+
+// Removes a front record that is ready: number 31.
+fn remove_from(record: &[u8], tally: &mut [u32]) -> Done
+    requires { ⌜ readyAnswer (now «record») (now tally) ≡ success (0 ∷ []) ⌝ }
+    ensures answer { λ r. ⌜ done r ≡ removeAnswer (now («record» .entry)) (now (tally .entry)) ⌝ }
+    ensures slice { λ _. ⌜ now (tally .exit) ≡ removeOut (now («record» .entry)) (now (tally .entry)) ⌝ }
+{
+    if !can_remove(record, tally) {
+        return Done::Refused(Refusal::NotRemovable);
+    }
+    change(record, tally, 0, 1);
+    Done::Done
+}
+
+// Removes a front record: M, and each cell where it holds, lowered by 1; numbers 12, 21 to 23 and 31.
+pub fn remove(record: &[u8], tally: &mut [u32]) -> Done
+    ensures answer { λ r. ⌜ done r ≡ removeAnswer (now («record» .entry)) (now (tally .entry)) ⌝ }
+    ensures slice { λ _. ⌜ now (tally .exit) ≡ removeOut (now («record» .entry)) (now (tally .entry)) ⌝ }
+{
+    match ready(record, tally) {
+        Done::Refused(r) => Done::Refused(r),
+        Done::Done => remove_from(record, tally),
     }
 }

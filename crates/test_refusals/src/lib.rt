@@ -9,7 +9,7 @@
 //   weights, 19 the age
 //   20 the file: 6 nodes, 65 bytes between that make a class too large if read as nodes, 91 arcs,
 //   105 round, 109 trailer
-//   141 the first record, 150 the second, 155 the tally: no cell above 0
+//   141 the first record, 150 the second, 155 the tally: no cell above 0, but for remove
 use answer::Aged;
 use answer::Done;
 use answer::Opened;
@@ -53,6 +53,8 @@ const AGEING: u64 = 8;
 const WEIGHTS: u64 = 9;
 
 const RELIABILITY: u64 = 10;
+
+const REMOVE: u64 = 11;
 
 // ---- numbers in a text, one sign between two
 fn fields(text: &[u8]) -> u64
@@ -114,6 +116,15 @@ fn good(case: &mut [u32]) {
     );
     set(case, 141, b"2 2 3 3 1 2 2 1 3 2 2 1 2 3");
     set(case, 155, b"2 2 1 0 0 0 0 0 0 0 0 0");
+}
+
+// The tally of two rounds, one of them the first record's: what remove takes back.
+fn good_for(call: u64, case: &mut [u32]) {
+    good(case);
+    if call != REMOVE {
+        return;
+    }
+    set(case, 155, b"2 2 2 0 0 1 0 1 1 1 1 2");
 }
 
 fn size(case: &[u32], at: usize) -> usize
@@ -264,8 +275,12 @@ fn call_bytes(call: u64, case: &[u32]) -> u64 {
 
 // ---- calls that fill words
 fn fill_words(call: u64, case: &[u32], given: &[u8], words: &mut [u32]) -> u64 {
+    let record = part(given, 0, size(case, 10));
     if call == ADD {
-        return done(tally::add(part(given, 0, size(case, 10)), words));
+        return done(tally::add(record, words));
+    }
+    if call == REMOVE {
+        return done(tally::remove(record, words));
     }
     let n = word(case, 16) as u32;
     if call == NEW {
@@ -356,19 +371,19 @@ fn due(call: u64, number: u64) -> u64 {
 
 // Change k of a list, at a call: 1 if the answer is not the number that is due.
 fn try_change(call: u64, list: &[u8], k: u64, seen: &mut [u8]) -> u64
-    requires { ⌜ (k ≤ 1000) × (call ≤ 10) ⌝ }
+    requires { ⌜ (k ≤ 1000) × (call ≤ 11) ⌝ }
     ensures { λ r. ⌜ r ≤ 1 ⌝ }
 {
     let mut case = [1u32; 167];
-    good(&mut case);
+    good_for(call, &mut case);
     put(
         &mut case,
         field(list, 3 * k) as usize,
         field(list, 3 * k + 1),
     );
     let number = call_on(call, &case);
-    let at = if number < 26 {
-        26 * call + number
+    let at = if number < 32 {
+        32 * call + number
     } else {
         PAST
     };
@@ -378,7 +393,7 @@ fn try_change(call: u64, list: &[u8], k: u64, seen: &mut [u8]) -> u64
 
 // How many changes of a list are answered wrongly.
 fn try_list(call: u64, list: &[u8], seen: &mut [u8]) -> u64
-    requires { ⌜ call ≤ 10 ⌝ }
+    requires { ⌜ call ≤ 11 ⌝ }
     ensures { λ r. ⌜ r ≤ 400 ⌝ }
 {
     let n = fields(list) / 3;
@@ -455,6 +470,23 @@ fn try_tallies(seen: &mut [u8]) -> u64
     a + b + c
 }
 
+// Add's numbers but 24; then a cell to be lowered is 0, or the outcome is not sound.
+fn try_removes(seen: &mut [u8]) -> u64
+    ensures { λ r. ⌜ r ≤ 800 ⌝ }
+{
+    let a = try_list(
+        REMOVE,
+        b"13 12 0,166 1 0,157 100000 0,143 4 12,10 8 12,13 11 21,13 2 21,155 65 22,157 100001 22",
+        seen,
+    );
+    let b = try_list(
+        REMOVE,
+        b"157 1 22,157 0 22,158 1 22,141 3 23,142 3 23,160 0 31,159 1 31,161 1 31",
+        seen,
+    );
+    a + b
+}
+
 fn try_chances(seen: &mut [u8]) -> u64
     ensures { λ r. ⌜ r ≤ 1600 ⌝ }
 {
@@ -477,12 +509,12 @@ fn show_number(k: u64) {
 
 // A line: the call's name and the numbers that it refused with.
 fn show(name: &[u8], call: usize, seen: &[u8])
-    requires { ⌜ call ≤ 10 ⌝ }
+    requires { ⌜ call ≤ 11 ⌝ }
 {
     io::write_all(STDOUT_FILENO, name);
     let mut k: usize = 1;
-    while k < 26 {
-        if byte(seen, 26 * call + k) == 1 {
+    while k < 32 {
+        if byte(seen, 32 * call + k) == 1 {
             show_number(k as u64);
         }
         k += 1;
@@ -502,19 +534,20 @@ fn show_all(seen: &[u8]) {
     show(b"ageing refused", 8, seen);
     show(b"weights refused", 9, seen);
     show(b"reliability refused", 10, seen);
+    show(b"remove refused", 11, seen);
 }
 
 // Tries all, prints what was refused, and tells how many answers were wrong.
 pub fn try_refusals() -> u64
     ensures { λ r. ⌜ r ≤ 10000 ⌝ }
 {
-    let mut seen = [0u8; 286];
+    let mut seen = [0u8; 384];
     let w = try_writer(&mut seen);
     let o = try_file(OPENING, &mut seen);
     let l = try_file(CHECK, &mut seen);
     let s = try_file(SEARCH, &mut seen);
     let j = try_join(SERIES, &mut seen) + try_join(PARALLEL, &mut seen);
-    let t = try_tallies(&mut seen);
+    let t = try_tallies(&mut seen) + try_removes(&mut seen);
     let c = try_chances(&mut seen);
     show_all(&seen);
     w + o + l + s + j + t + c

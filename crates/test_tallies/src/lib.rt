@@ -1,6 +1,9 @@
-// A plain reading of document 01 for tallies, weights and reliability, cell by cell: no code is
-// shared with the library.
+// A plain reading of documents 01 and 02 for tallies, weights and reliability, cell by cell: no code
+// is shared with the library.
 use test_support::byte;
+use test_support::flag;
+use test_support::pick;
+use test_support::poke;
 use test_support::put;
 use test_support::record_holds;
 use test_support::word;
@@ -11,6 +14,11 @@ pub const HEAD: usize = 3;
 
 // A place that no slice has.
 pub const PAST: usize = 1000000;
+
+// What an add and a remove add to a word, modulo 2^32.
+pub const UP: u64 = 1;
+
+pub const DOWN: u64 = 4294967295;
 
 // Whether the words of b are the first of a.
 pub fn begins(a: &[u32], b: &[u32]) -> bool {
@@ -23,7 +31,60 @@ pub fn begins(a: &[u32], b: &[u32]) -> bool {
     alike
 }
 
+pub fn copy(from: &[u32], to: &mut [u32]) {
+    let mut i: usize = 0;
+    while i < from.len() {
+        put(to, i, word(from, i));
+        i += 1;
+    }
+}
+
+// Words that are no tally's.
+pub fn junk(seed: u64, t: &mut [u32]) {
+    let mut i: usize = 0;
+    while i < 4240 {
+        put(t, i, pick(seed, i as u64, 5));
+        i += 1;
+    }
+}
+
 // ---- records
+pub struct Sizes {
+    pub n1: u64,
+    pub n2: u64,
+}
+
+// Pairs at random, p1 falling and p2 rising; the record's length.
+pub fn record_of(seed: u64, s: Sizes, out: &mut [u8]) -> usize
+    requires { ⌜ (s .n1 ≤ 70) × (s .n2 ≤ 70) ⌝ }
+    ensures { λ r. ⌜ r ≤ 60 ⌝ }
+{
+    let mut p1 = s.n1 + 2;
+    let mut p2: u64 = 0;
+    let mut k: usize = 0;
+    let mut i: u64 = 0;
+    while i < 12 {
+        let down = 1 + pick(seed, 100 + i, 9);
+        let q2 = p2 + 1 + pick(seed, 200 + i, 9);
+        i += 1;
+        if p1 <= down {
+            continue;
+        }
+        if q2 > s.n2 + 1 {
+            continue;
+        }
+        p1 -= down;
+        p2 = q2;
+        poke(out, 3 + 2 * k, p1);
+        poke(out, 4 + 2 * k, p2);
+        k += 1;
+    }
+    poke(out, 0, s.n1);
+    poke(out, 1, s.n2);
+    poke(out, 2, k as u64);
+    3 + 2 * k
+}
+
 fn is_record(r: &[u8]) -> bool {
     let k = byte(r, 2) as usize;
     let mut good = (byte(r, 0) <= 64) & (byte(r, 1) <= 64) & (r.len() == 3 + 2 * k);
@@ -89,8 +150,8 @@ pub fn state(t: &[u32]) -> u64 {
     if is_sound(t) { 0 } else { 22 }
 }
 
-// The number of an add, or 0.
-pub fn add_number(r: &[u8], t: &[u32]) -> u64 {
+// What an add and a remove refuse first, or 0.
+fn ready_number(r: &[u8], t: &[u32]) -> u64 {
     if !is_record(r) {
         return 12;
     }
@@ -101,21 +162,32 @@ pub fn add_number(r: &[u8], t: &[u32]) -> u64 {
     if (byte(r, 0) != word(t, 0)) | (byte(r, 1) != word(t, 1)) {
         return 23;
     }
+    0
+}
+
+// The number of an add, or 0.
+pub fn add_number(r: &[u8], t: &[u32]) -> u64 {
+    let n = ready_number(r, t);
+    if n != 0 {
+        return n;
+    }
     if word(t, 2) == 100000 { 24 } else { 0 }
 }
 
-// An add, cell by cell, where it is due.
-pub fn add(r: &[u8], t: &mut [u32], due: bool) {
+// An add or a remove, cell by cell, where it is due.
+pub fn change(r: &[u8], t: &mut [u32], due: bool, step: u64)
+    requires { ⌜ step < 4294967296 ⌝ }
+{
     let n1 = size(word(t, 0));
     let n2 = size(word(t, 1));
     let n = cells(n1, n2);
-    let m = word(t, 2) + 1;
+    let m = word(t, 2) + step;
     put(t, if due { 2 } else { PAST }, m);
     let mut k: usize = 0;
     while k < n {
         let a = (n1 - least(k / (n2 + 1), n1)) as u64;
         let b = (n2 - least(k % (n2 + 1), n2)) as u64;
-        let x = word(t, HEAD + k) + 1;
+        let x = word(t, HEAD + k) + step;
         put(
             t,
             if due & record_holds(r, a, b) {
@@ -133,6 +205,48 @@ fn least(x: usize, y: usize) -> usize
     ensures { λ r. ⌜ (r ≤ x) × (r ≤ y) ⌝ }
 {
     if x < y { x } else { y }
+}
+
+// The number of a remove, or 0. A word of 0 that is lowered becomes the largest, which no sound tally
+// of 100,000 rounds at most has: so the outcome tells every cause of 31.
+pub fn remove_number(r: &[u8], t: &[u32]) -> u64 {
+    let n = ready_number(r, t);
+    if n != 0 {
+        return n;
+    }
+    let mut left = [0u32; 4240];
+    copy(t, &mut left);
+    change(r, &mut left, true, DOWN);
+    if is_sound(&left) { 0 } else { 31 }
+}
+
+// The causes of 31, alone or together, whatever else is wrong: 1 where M is 0, 2 where a cell to be
+// lowered is, 4 where the outcome is not sound, with 0 for what would fall below it.
+pub fn causes(r: &[u8], t: &[u32]) -> u64
+    ensures { λ r. ⌜ r ≤ 7 ⌝ }
+{
+    let mut left = [0u32; 4240];
+    copy(t, &mut left);
+    change(r, &mut left, true, DOWN);
+    let m = flag(word(&left, 2) == DOWN);
+    put(&mut left, if m == 1 { 2 } else { PAST }, 0);
+    let c = settle(&mut left);
+    m + 2 * c + 4 * flag(!is_sound(&left))
+}
+
+// Puts 0 for the largest word from the cells on, and tells whether there was one.
+fn settle(t: &mut [u32]) -> u64
+    ensures { λ r. ⌜ r ≤ 1 ⌝ }
+{
+    let mut found = false;
+    let mut i: usize = HEAD;
+    while i < 4240 {
+        let low = word(t, i) == DOWN;
+        put(t, if low { i } else { PAST }, 0);
+        found = found | low;
+        i += 1;
+    }
+    flag(found)
 }
 
 // ---- weights, from the last place to the first

@@ -13,6 +13,11 @@ use test_support::put;
 use test_support::word;
 use test_tallies::HEAD;
 use test_tallies::PAST;
+use test_tallies::Sizes;
+use test_tallies::UP;
+use test_tallies::copy;
+use test_tallies::junk;
+use test_tallies::record_of;
 ghost use Prim.Native.Nat.{_≤_, _<_};
 ghost use lib.ListN.{length};
 
@@ -67,22 +72,6 @@ fn show(counts: &[u64], base: usize)
 }
 
 // ---- slices of words
-fn copy(from: &[u32], to: &mut [u32]) {
-    let mut i: usize = 0;
-    while i < from.len() {
-        put(to, i, word(from, i));
-        i += 1;
-    }
-}
-
-fn junk(seed: u64, t: &mut [u32]) {
-    let mut i: usize = 0;
-    while i < 4240 {
-        put(t, i, pick(seed, i as u64, 5));
-        i += 1;
-    }
-}
-
 fn number(d: Done) -> u64 {
     match d {
         Done::Done => 0,
@@ -139,63 +128,32 @@ fn try_new(n1: u64, n2: u64, words: &mut [u32], counts: &mut [u64])
 }
 
 // ---- add
-// Pairs at random, p1 falling and p2 rising; the record's length.
-fn record_of(seed: u64, s: Size, out: &mut [u8]) -> usize
-    requires { ⌜ (s .n1 ≤ 70) × (s .n2 ≤ 70) ⌝ }
-    ensures { λ r. ⌜ r ≤ 60 ⌝ }
-{
-    let mut p1 = s.n1 + 2;
-    let mut p2: u64 = 0;
-    let mut k: usize = 0;
-    let mut i: u64 = 0;
-    while i < 12 {
-        let down = 1 + pick(seed, 100 + i, 9);
-        let q2 = p2 + 1 + pick(seed, 200 + i, 9);
-        i += 1;
-        if p1 <= down {
-            continue;
-        }
-        if q2 > s.n2 + 1 {
-            continue;
-        }
-        p1 -= down;
-        p2 = q2;
-        poke(out, 3 + 2 * k, p1);
-        poke(out, 4 + 2 * k, p2);
-        k += 1;
-    }
-    poke(out, 0, s.n1);
-    poke(out, 1, s.n2);
-    poke(out, 2, k as u64);
-    3 + 2 * k
-}
-
 fn try_add(record: &[u8], words: &mut [u32], counts: &mut [u64])
     requires { ⌜ length (now words) ≤ 4240 ⌝ }
 {
     let mut want = [0u32; 4240];
     copy(words, &mut want);
     let due = test_tallies::add_number(record, words);
-    test_tallies::add(record, &mut want, due == 0);
+    test_tallies::change(record, &mut want, due == 0, UP);
     let got = number(tally::add(record, words));
     let alike = test_tallies::begins(&want, words);
     judge(counts, 28, got, (got == due) & alike);
 }
 
 // The sizes of a record: those of the tally, but for two times in ten.
-fn record_sizes(seed: u64, s: Size) -> Size
+fn record_sizes(seed: u64, s: Sizes) -> Sizes
     requires { ⌜ (s .n1 ≤ 64) × (s .n2 ≤ 64) ⌝ }
     ensures { λ r. ⌜ (r .n1 ≤ 65) × (r .n2 ≤ 65) ⌝ }
 {
     let kind = pick(seed, 7, 10);
     if kind == 0 {
-        return Size {
+        return Sizes {
             n1: s.n1 + 1,
             n2: s.n2,
         };
     }
     if kind == 1 {
-        return Size {
+        return Sizes {
             n1: s.n1,
             n2: pick(seed, 8, 65),
         };
@@ -214,7 +172,7 @@ fn record_end(seed: u64, n: usize) -> usize
     if pick(seed, 7, 10) == 3 { n - 1 } else { n }
 }
 
-fn one_add(seed: u64, s: Size, words: &mut [u32], counts: &mut [u64])
+fn one_add(seed: u64, s: Sizes, words: &mut [u32], counts: &mut [u64])
     requires { ⌜ (s .n1 ≤ 64) × (s .n2 ≤ 64) × (length (now words) ≤ 4240) ⌝ }
 {
     let mut record = [0u8; 64];
@@ -375,21 +333,16 @@ fn try_age(age: u64, counts: &mut [u64]) {
 }
 
 // ---- a tally: new, adds, reliability, and the same after a word is damaged
-struct Size {
-    n1: u64,
-    n2: u64,
-}
-
-fn size_of(seed: u64, i: u64) -> Size
+fn size_of(seed: u64, i: u64) -> Sizes
     ensures { λ r. ⌜ (r .n1 ≤ 64) × (r .n2 ≤ 64) ⌝ }
 {
     if i % 7 == 0 {
-        return Size { n1: 64, n2: 64 };
+        return Sizes { n1: 64, n2: 64 };
     }
     if i % 7 == 1 {
-        return Size { n1: 0, n2: 0 };
+        return Sizes { n1: 0, n2: 0 };
     }
-    Size {
+    Sizes {
         n1: pick(seed, 1, 64),
         n2: pick(seed, 2, 64),
     }
@@ -416,7 +369,7 @@ fn damage(seed: u64, words: &mut [u32]) {
     )
 }
 
-fn adds(seed: u64, s: Size, words: &mut [u32], counts: &mut [u64])
+fn adds(seed: u64, s: Sizes, words: &mut [u32], counts: &mut [u64])
     requires { ⌜ (s .n1 ≤ 64) × (s .n2 ≤ 64) × (length (now words) ≤ 4240) ⌝ }
 {
     let mut j: u64 = 0;
@@ -427,22 +380,22 @@ fn adds(seed: u64, s: Size, words: &mut [u32], counts: &mut [u64])
 }
 
 // Sizes as they are, or one of them 65.
-fn new_sizes(seed: u64, s: Size) -> Size
+fn new_sizes(seed: u64, s: Sizes) -> Sizes
     requires { ⌜ (s .n1 ≤ 64) × (s .n2 ≤ 64) ⌝ }
     ensures { λ r. ⌜ (r .n1 ≤ 65) × (r .n2 ≤ 65) ⌝ }
 {
     let kind = pick(seed, 40, 12);
     if kind == 0 {
-        return Size { n1: 65, n2: s.n2 };
+        return Sizes { n1: 65, n2: s.n2 };
     }
     if kind == 1 {
-        return Size { n1: s.n1, n2: 65 };
+        return Sizes { n1: s.n1, n2: 65 };
     }
     s
 }
 
 // A slice with room and a few words to spare, or one word short, or without a head.
-fn room(seed: u64, s: Size) -> usize
+fn room(seed: u64, s: Sizes) -> usize
     ensures { λ r. ⌜ r ≤ 4240 ⌝ }
 {
     let kind = pick(seed, 41, 10);
@@ -457,7 +410,7 @@ fn room(seed: u64, s: Size) -> usize
 }
 
 // A new tally, and its reliability: no rounds.
-fn start(seed: u64, s: Size, words: &mut [u32], counts: &mut [u64])
+fn start(seed: u64, s: Sizes, words: &mut [u32], counts: &mut [u64])
     requires { ⌜ (s .n1 ≤ 64) × (s .n2 ≤ 64) × (length (now words) ≤ 4240) × (seed < 2147483648) ⌝ }
 {
     let first = new_sizes(seed, s);
@@ -466,7 +419,7 @@ fn start(seed: u64, s: Size, words: &mut [u32], counts: &mut [u64])
 }
 
 // Adds and reliability, and both again after a word is damaged.
-fn go_on(seed: u64, s: Size, words: &mut [u32], counts: &mut [u64])
+fn go_on(seed: u64, s: Sizes, words: &mut [u32], counts: &mut [u64])
     requires { ⌜ (s .n1 ≤ 64) × (s .n2 ≤ 64) × (length (now words) ≤ 4240) × (seed < 2147483648) ⌝ }
 {
     adds(seed, s, words, counts);
@@ -476,7 +429,7 @@ fn go_on(seed: u64, s: Size, words: &mut [u32], counts: &mut [u64])
     try_rate(seed + 1, words, counts);
 }
 
-fn in_slice(seed: u64, s: Size, words: &mut [u32], counts: &mut [u64])
+fn in_slice(seed: u64, s: Sizes, words: &mut [u32], counts: &mut [u64])
     requires { ⌜ (s .n1 ≤ 64) × (s .n2 ≤ 64) × (length (now words) ≤ 4240) × (seed < 2147483648) ⌝ }
 {
     start(seed, s, words, counts);

@@ -1,20 +1,17 @@
 -- `tally::add` passes on what the record or the tally is refused for.
 use mathlib.Core.Path.{sym, ap, _∙_}
-use borrow.Author.Tests.{not-true, not-false}
+use lib.Dec.{eqb}
 use borrow.Author.Needs.{needs}
 use Rattle.answer.specs.Outcome.{done}
-use Rattle.tally.proofs.Adds.{add-none, add-state}
+use Rattle.limits.specs.Limits.{maxRounds}
+use Rattle.soundness.specs.Tally.{rounds}
+use Rattle.tally.specs.Calls.{added}
+use Rattle.tally.proofs.Readies.{call-refused}
 use Rattle.tally.proofs.add.Statement.{statement}
 use Rattle.tally.proofs.add.Tie as tie
 
-is-record-requires : tie.Need-is-record-requires
-is-record-requires c κs = search needs
-
-returns : tie.Need-returns
-returns c = let a = c .before .before .before .before .args in add-none (a .«record» .now) (a .tally .now) (sym (c .before .is-record .ensures) ∙ not-true _ (c .if1 .taken))
-
-check-requires : tie.Need-check-requires
-check-requires c κs = search needs
+ready-requires : tie.Need-ready-requires
+ready-requires c κs = search needs
 
 enum-known-r : tie.Need-enum-known-r
 enum-known-r c = search needs
@@ -23,31 +20,33 @@ enum-told : tie.Need-enum-told
 enum-told c = search needs
 
 add-to-requires : tie.Need-add-to-requires
-add-to-requires c κs = (sym (c .before .before .before .before .before .before .is-record .ensures) ∙ not-false _ (c .before .before .before .before .before .if1 .left), sym (c .before .before .before .check .ensures) ∙ ap done (c .before .enum-told .given .1))
+add-to-requires c κs = sym (c .before .before .before .ready .ensures) ∙ ap done (c .before .enum-told .given .1)
 
 same-length : tie.Need-same-length
 same-length c = search needs
 
-returns-2 : tie.Need-returns-2
-returns-2 c = let a = c .before .before .before .before .before .before .before .before .before .args in add-state (a .«record» .now) (a .tally .now) (sym (c .before .before .before .before .before .before .is-record .ensures) ∙ not-false _ (c .before .before .before .before .before .if1 .left)) _ (sym (c .before .before .before .check .ensures) ∙ ap done (c .before .r .given .1))
+returns : tie.Need-returns
+returns c =
+    let a = c .before .before .before .before .before .before .before .args in
+    let r = a .«record» .now in
+    let t = a .tally .now in
+    call-refused r t 24 (eqb (rounds t) maxRounds) (added r t) _ (sym (c .before .before .before .ready .ensures) ∙ ap done (c .before .r .given .1))
 
 same-length-2 : tie.Need-same-length-2
 same-length-2 c = search needs
 
-returns-3 : tie.Need-returns-3
-returns-3 c = search needs
+returns-2 : tie.Need-returns-2
+returns-2 c = search needs
 
 pub add-spec : {M : Type 1} → statement M
 add-spec =
     tie.close
     (tie.spec
-    is-record-requires
-    returns
-    check-requires
+    ready-requires
     enum-known-r
     enum-told
     add-to-requires
     same-length
-    returns-2
+    returns
     same-length-2
-    returns-3)
+    returns-2)

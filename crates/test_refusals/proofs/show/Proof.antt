@@ -1,14 +1,14 @@
--- The loop of `show` goes over the numbers up to 25.
+-- The loop of `show` goes over the numbers up to 31.
 use Prim.Native.Nat.{_-_, _≤_}
 use borrow.Author.Needs.{needs}
 use Rattle.test_refusals.proofs.show.Statement.{statement}
 use Rattle.test_refusals.proofs.show.Tie as tie
 
 abbrev Inv-loop : tie.InvT-loop
-Inv-loop name call seen k₀ t5 k = (1 ≤ k) × (k ≤ 26)
+Inv-loop name call seen k₀ t5 k = (1 ≤ k) × (k ≤ 32)
 
 abbrev μ-loop : tie.MeasureT-loop
-μ-loop name call seen k₀ t5 k = 26 - k
+μ-loop name call seen k₀ t5 k = 32 - k
 
 write-all-requires : tie.Need-write-all-requires Inv-loop μ-loop
 write-all-requires c κs = search needs

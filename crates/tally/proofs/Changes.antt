@@ -1,0 +1,255 @@
+-- Cells a row at a time, over lists: the loops of `change_rows` and `rows_ready`; and a whole tally changed.
+use mathlib.Core.Path.{_≡_, refl, sym, ap, ap₂, _∙_}
+use mathlib.Core.Logic.{⊎-elim}
+use mathlib.Core.Bool.{Bool, true, false, cond, _&&_}
+use mathlib.Core.List.{List, [], _∷_, _++_, append-nil, append-assoc}
+use Prim.Native.Nat.{ℕ, suc, _+_, _-_, _*_, _≤_, _<_, max}
+use native.Mathlib.Nat.{mul-le-mul-right}
+use native.Mathlib.Omega.{arith}
+use lib.Dec.{T}
+use lib.ListN.{length, getD, set, take, drop, length-append, length-drop, length-set}
+use lib.Seq.{getD-append-add, getD-drop, drop-drop, drop-length, drop-set-lt}
+use borrow.Rule.Slice.PartMut.{putMid, post-is}
+use Rattle.laws.specs.Tests.{T-true, T-ext, order, flag}
+use Rattle.laws.specs.Every.{every, every-next}
+use Rattle.laws.specs.Members.{_∈_}
+use Rattle.front.specs.declared.Pair.{Pair}
+use Rattle.record.specs.Record.{listed, recordHolds, recordSize1, recordSize2}
+use Rattle.record.proofs.Records.{IsRecord, record-is}
+use Rattle.soundness.specs.Tally.{width, headWords, roundsPlace, tallySize1, tallySize2, rounds, words, cell}
+use Rattle.tally.specs.Cells.{cellRows, heading, tallyOf}
+use Rattle.tally.specs.Calls.{held, added, removed}
+use Rattle.tally.specs.Steps.{changedWord, changedPart, peak, peakAt, CanChange, Fitting, CellsCanChange, changedCell, changedCells, rowReady, rowTest, readyAnswer, Changing, changedTally}
+use Rattle.limits.specs.Limits.{maxClass}
+use Rattle.tally.proofs.Peaks.{holds-peak, peak-next, peak-none, peak-most}
+use Rattle.answer.specs.Outcome.{success}
+use Rattle.tally.proofs.Tables.{table-length, table-snoc, table-same, row-changed}
+use Rattle.tally.proofs.Headings.{counted, tally-length}
+use Rattle.tally.proofs.Readies.{ready-sound, ready-long, ready-cells}
+
+-- whether the record holds, by its height
+pub held-true : (r : List ℕ) (n1 n2 l1 l2 : ℕ) → n2 - l2 < peak (listed r) (n1 - l1) → recordHolds r (n1 - l1) (n2 - l2) ≡ true
+held-true r n1 n2 l1 l2 h = T-true (recordHolds r (n1 - l1) (n2 - l2)) .0 (holds-peak (listed r) (n1 - l1) (n2 - l2) .1 h)
+
+pub held-false : (r : List ℕ) (n1 n2 l1 l2 : ℕ) → peak (listed r) (n1 - l1) ≤ n2 - l2 → recordHolds r (n1 - l1) (n2 - l2) ≡ false
+held-false r n1 n2 l1 l2 h = T-ext (recordHolds r (n1 - l1) (n2 - l2)) false (λ t. absurd (omega (arith, holds-peak (listed r) (n1 - l1) (n2 - l2) .0 t)), λ t. absurd t)
+
+-- x − 1 failures of class 1 come next; the rows of more failures are done
+pub record AtRow (r : List ℕ) (n1 n2 y at x : ℕ) : Type 0 where
+  -- at most n1 + 1 positions are left
+  pub upto : x ≤ n1 + 1
+  -- the row that comes next begins here
+  pub place : at ≡ (n1 + 1 - x) * width n2
+  -- the height after x failures of class 1
+  pub height : y ≡ peak (listed r) x
+
+-- the rows in front are changed, the others as they were
+pub record RowsDone (up down : ℕ) (r old cells : List ℕ) (n1 n2 at x : ℕ) : Type 0 where
+  pub done : cells ≡ cellRows (n1 + 1 - x) (width n2) (λ l1 l2. changedCell up down r n1 n2 l1 l2 (getD old (l1 * width n2 + l2) 0)) ++ drop at old
+  -- as many cells
+  pub long : length cells ≡ length old
+
+module _ {r old : List ℕ} {n1 n2 : ℕ} (ok : Fitting old r n1 n2) where
+  good : IsRecord r
+  good = record-is r .0 (ok .is)
+
+  within1 : (p : Pair) → p ∈ listed r → p .p1 .0 ≤ n1 + 1
+  within1 p m = omega (arith, good .form .within p m, ok .one)
+
+  within2 : (p : Pair) → p ∈ listed r → p .p2 .0 ≤ n2 + 1
+  within2 p m = omega (arith, good .form .within p m, ok .two)
+
+  pub small : (n1 ≤ maxClass) × (n2 ≤ maxClass)
+  small = (omega (arith, good .small1, ok .one), omega (arith, good .small2, ok .two))
+
+  pub row-first : AtRow r n1 n2 0 0 (n1 + 1)
+  row-first =
+      let e : n1 + 1 - (n1 + 1) ≡ 0 = omega arith in
+      record {
+        upto = omega arith;
+        place = rw e (omega arith);
+        height = sym (peak-none (listed r) (n1 + 1) within1);
+      }
+
+  pub done-first : (up down : ℕ) → RowsDone up down r old old n1 n2 0 (n1 + 1)
+  done-first up down = let e : n1 + 1 - (n1 + 1) ≡ 0 = omega arith in record { done = rw e refl; long = refl }
+
+  module _ {y at x : ℕ} (s : AtRow r n1 n2 y at x) (some : 0 < x) (z : ℕ) (is : z ≡ max y (peakAt (listed r) x)) where
+    abbrev l1 : ℕ
+    l1 = n1 + 1 - x
+
+    pub risen : z ≡ peak (listed r) (n1 - l1)
+    risen =
+        let e : x ≡ suc (n1 - l1) = omega (arith, s .upto) in
+        is ∙ ap₂ max (s .height ∙ ap (peak (listed r)) e) (ap (peakAt (listed r)) e) ∙ sym (peak-next (listed r) (n1 - l1))
+
+    pub fits : z ≤ width n2
+    fits = omega (arith, risen, peak-most (listed r) (n1 - l1) (n2 + 1) within2)
+
+    pub room : at + width n2 ≤ length old
+    room =
+        let h : l1 + 1 ≤ n1 + 1 = omega (arith, s .upto) in
+        omega (arith, s .place, ok .room, mul-le-mul-right (width n2) h)
+
+    next : suc l1 ≡ n1 + 1 - (x - 1)
+    next = omega (arith, s .upto)
+
+    pub row-next : AtRow r n1 n2 z (at + width n2) (x - 1)
+    row-next =
+        let q : n1 - l1 ≡ x - 1 = omega (arith, s .upto) in
+        record {
+          upto = omega (arith, s .upto);
+          place = omega (arith, s .place, ap (λ k. k * width n2) (sym next));
+          height = risen ∙ ap (peak (listed r)) q;
+        }
+
+    -- the record holds in the last z cells of the row alone
+    holds-high : (i : ℕ) → i < z → recordHolds r (n1 - l1) (n2 - (width n2 - z + i)) ≡ true
+    holds-high i h = held-true r n1 n2 l1 (width n2 - z + i) (omega (arith, risen, fits))
+
+    holds-low : (i : ℕ) → i < width n2 - z → recordHolds r (n1 - l1) (n2 - i) ≡ false
+    holds-low i h = held-false r n1 n2 l1 i (omega (arith, risen))
+
+    -- ---- cells changed
+    module _ {up down : ℕ} {cells : List ℕ} (d : RowsDone up down r old cells n1 n2 at x) where
+      abbrev cell-new : ℕ → ℕ → ℕ
+      cell-new = λ l1 l2. changedCell up down r n1 n2 l1 l2 (getD old (l1 * width n2 + l2) 0)
+
+      abbrev front : List ℕ
+      front = cellRows l1 (width n2) cell-new
+
+      front-long : length front ≡ at
+      front-long = table-length l1 (width n2) cell-new ∙ sym (s .place)
+
+      -- the cells from this row on are as they were
+      pub later : CellsCanChange up down r n1 n2 old → (i : ℕ) → i < z → CanChange up down (getD cells (at + (width n2 - z) + i) 0)
+      later each i b =
+          let k = width n2 - z + i in
+          let e : at + (width n2 - z) + i ≡ at + k = omega arith in
+          rw (ap (λ j. getD cells j 0) e ∙ ap (λ c. getD c (at + k) 0) (d .done) ∙ ap (λ a. getD (front ++ drop at old) (a + k) 0) (sym front-long) ∙ getD-append-add front (drop at old) k 0 ∙ getD-drop at old k 0 ∙ ap (λ a. getD old (a + k) 0) (s .place))
+          (each l1 k (omega (arith, s .upto)) (omega (arith, fits)) (T-true (recordHolds r (n1 - l1) (n2 - k)) .1 (holds-high i b)))
+
+      low : (i : ℕ) → i < width n2 - z → cell-new l1 i ≡ getD old (length front + i) 0
+      low i h = rw (holds-low i h) (ap (λ n. getD old (n + i) 0) (sym (s .place) ∙ sym front-long))
+
+      high : (i : ℕ) → i < z → cell-new l1 (width n2 - z + i) ≡ changedWord up down (getD old (length front + (width n2 - z + i)) 0)
+      high i h = rw (holds-high i h) (ap (λ n. changedWord up down (getD old (n + (width n2 - z + i)) 0)) (sym (s .place) ∙ sym front-long))
+
+      pub done-next : RowsDone up down r old (changedPart up down cells (at + (width n2 - z)) z) n1 n2 (at + width n2) (x - 1)
+      done-next =
+          record {
+            done = now ∙ ap (λ k. cellRows k (width n2) cell-new ++ drop (at + width n2) old) next;
+            long = ap length now ∙ whole;
+          }
+        where
+          now : changedPart up down cells (at + (width n2 - z)) z ≡ cellRows (suc l1) (width n2) cell-new ++ drop (at + width n2) old
+          now =
+              ap (λ c. changedPart up down c (at + (width n2 - z)) z) (d .done)
+              ∙ ap (λ a. changedPart up down (front ++ drop a old) (a + (width n2 - z)) z) (sym front-long)
+              ∙ row-changed up down old front (width n2) z (cell-new l1) fits (omega (arith, room, front-long)) low high
+              ∙ ap₂ (λ t a. t ++ drop (a + width n2) old) (sym (table-snoc l1 (width n2) cell-new)) front-long
+
+          whole : length (cellRows (suc l1) (width n2) cell-new ++ drop (at + width n2) old) ≡ length old
+          whole = length-append (cellRows (suc l1) (width n2) cell-new) (drop (at + width n2) old) ∙ omega (arith, room, s .place, table-length (suc l1) (width n2) cell-new, length-drop (at + width n2) old)
+
+    -- ---- the test of a row
+    pub lower : y ≤ z
+    lower = omega (arith, is)
+
+    pub after-first : 0 < at → width n2 ≤ at
+    after-first h = ⊎-elim (λ k. omega (arith, s .place, mul-le-mul-right (width n2) k)) (λ k. absurd (none k)) (order 1 l1)
+      where
+        none : l1 < 1 → ⊥
+        none k = let e : l1 ≡ 0 = omega arith in omega (arith, s .place, ap (λ k. k * width n2) e)
+
+    pub test-next : {all : Bool} → all ≡ every (n1 + 1 - x) (rowTest r n1 n2 old) → all && rowReady old at (width n2) y z ≡ every (n1 + 1 - (x - 1)) (rowTest r n1 n2 old)
+    test-next {all} e =
+        let q : l1 + 1 ≡ n1 + 1 - (x - 1) = omega (arith, s .upto) in
+        let p : x ≡ n1 + 1 - l1 = omega (arith, s .upto) in
+        ap (λ b. all && b) (ap (λ a. rowReady old a (width n2) y z) (s .place) ∙ ap₂ (rowReady old (l1 * width n2) (width n2)) (s .height ∙ ap (peak (listed r)) p) risen)
+        ∙ every-next (rowTest r n1 n2 old) l1 e ∙ ap (λ n. every n (rowTest r n1 n2 old)) q
+
+  pub done-last : {up down : ℕ} {cells : List ℕ} {y at x : ℕ} → AtRow r n1 n2 y at x → RowsDone up down r old cells n1 n2 at x → x ≡ 0 → cells ≡ changedCells up down r n1 n2 old
+  done-last {up} {down} {cells} {y} {at} {x} s d z =
+      let e : n1 + 1 - x ≡ n1 + 1 = omega arith in
+      d .done ∙ ap₂ (λ k a. cellRows k (width n2) (λ l1 l2. changedCell up down r n1 n2 l1 l2 (getD old (l1 * width n2 + l2) 0)) ++ drop a old) e (s .place ∙ ap (λ k. k * width n2) e)
+
+-- a list whose tail was lent
+pub put-tail : (n : ℕ) (l ys zs : List ℕ) → n ≤ length l → ys ≡ zs → putMid n (length l - n) l ys ≡ take n l ++ zs
+put-tail n l ys zs h e = ap (λ r. take n l ++ r) (ap₂ _++_ e (post-is n (length l) l h ∙ drop-length l) ∙ append-nil zs)
+
+-- ---- a whole tally
+module _ (up down : ℕ) (r t : List ℕ) where
+  abbrev n1 : ℕ
+  n1 = tallySize1 t
+
+  abbrev n2 : ℕ
+  n2 = tallySize2 t
+
+  abbrev cells-new : ℕ → ℕ → ℕ
+  cells-new l1 l2 = changedCell up down r n1 n2 l1 l2 (cell t l1 l2)
+
+  module _ (ok : Changing up down r t) where
+    -- M is changed first; the cells are as they were
+    cells-are : (m : ℕ) → drop headWords (set t roundsPlace m) ≡ drop headWords t
+    cells-are m = drop-set-lt headWords t roundsPlace m (omega arith)
+
+    pub change-long : (m : ℕ) → headWords ≤ length (set t roundsPlace m)
+    change-long m = omega (arith, ok .long, length-set t roundsPlace m)
+
+    pub change-cells : (m : ℕ) → let cells = drop headWords (set t roundsPlace m) in
+        Fitting cells r (recordSize1 r) (recordSize2 r) × CellsCanChange up down r (recordSize1 r) (recordSize2 r) cells
+    change-cells m = rw (cells-are m, ok .fits .one, ok .fits .two) (ok .fits, ok .each)
+
+    pub change-out : let u = set t roundsPlace (changedWord up down (rounds t)) in
+        take headWords u ++ changedCells up down r (recordSize1 r) (recordSize2 r) (drop headWords u) ≡ changedTally up down r t
+    change-out =
+        let w = width n2 in
+        let m = changedWord up down (rounds t) in
+        let first = heading n1 n2 m cells-new in
+        rw (ok .fits .one, ok .fits .two, cells-are m, counted t m (ok .long))
+        (ap₂ (λ x y. first ++ (x ++ y))
+        (table-same (n1 + 1) w (λ l1 l2. changedCell up down r n1 n2 l1 l2 (getD (drop headWords t) (l1 * w + l2) 0)) cells-new (λ i j p q. ap (changedCell up down r n1 n2 i j) (getD-drop headWords t (i * w + j) 0)))
+        (drop-drop ((n1 + 1) * w) headWords t)
+        ∙ sym (append-assoc first (cellRows (n1 + 1) w cells-new) (drop (words n1 n2) t)))
+
+  -- by M and the cells that it leaves
+  changed-is : (m : ℕ) (c : ℕ → ℕ → ℕ) → changedWord up down (rounds t) ≡ m → ((l1 l2 : ℕ) → cells-new l1 l2 ≡ c l1 l2)
+      → let x = tallyOf n1 n2 m c in changedTally up down r t ≡ x ++ drop (length x) t
+  changed-is m c e f =
+      ap₂ (λ k y. (heading n1 n2 k c ++ y) ++ drop (words n1 n2) t) e (table-same (n1 + 1) (width n2) cells-new c (λ i j p q. f i j))
+      ∙ ap (λ k. tallyOf n1 n2 m c ++ drop k t) (sym (tally-length n1 n2 m c))
+
+  -- where nothing falls below 0: no word is above the largest M
+  pub can-change : readyAnswer r t ≡ success (0 ∷ []) → up ≤ 1 → down ≤ rounds t + up
+      → ((l1 l2 : ℕ) → l1 ≤ n1 → l2 ≤ n2 → T (recordHolds r (n1 - l1) (n2 - l2)) → down ≤ cell t l1 l2 + up) → Changing up down r t
+  can-change ok one many cells =
+      let sound = ready-sound r t ok in
+      record {
+        long = ready-long r t ok;
+        fits = ready-cells r t ok;
+        many = (omega (arith, sound .few), many);
+        each = λ l1 l2 h k y. rw (getD-drop headWords t (l1 * width n2 + l2) 0) (omega (arith, sound .few, sound .grows .below l1 l2 h k), cells l1 l2 h k y);
+      }
+
+-- add and remove are such changes
+module _ (r t : List ℕ) where
+  raised : (b : Bool) (x : ℕ) → cond b (changedWord 1 0 x) x ≡ x + flag b
+  raised true x = omega arith
+  raised false x = omega arith
+
+  lowered : (b : Bool) (x : ℕ) → cond b (changedWord 0 1 x) x ≡ x - flag b
+  lowered true x = omega arith
+  lowered false x = omega arith
+
+  pub add-is : changedTally 1 0 r t ≡ added r t ++ drop (length (added r t)) t
+  add-is =
+      let n1 = tallySize1 t in
+      let n2 = tallySize2 t in
+      changed-is 1 0 r t (rounds t + 1) (λ l1 l2. cell t l1 l2 + held r n1 n2 l1 l2) (omega arith) (λ l1 l2. raised (recordHolds r (n1 - l1) (n2 - l2)) (cell t l1 l2))
+
+  pub remove-is : changedTally 0 1 r t ≡ removed r t ++ drop (length (removed r t)) t
+  remove-is =
+      let n1 = tallySize1 t in
+      let n2 = tallySize2 t in
+      changed-is 0 1 r t (rounds t - 1) (λ l1 l2. cell t l1 l2 - held r n1 n2 l1 l2) (omega arith) (λ l1 l2. lowered (recordHolds r (n1 - l1) (n2 - l2)) (cell t l1 l2))
