@@ -127,26 +127,33 @@ pub fn remove_and_test(record: &[u8], tally: &mut [u32], sound: Sound) -> u32 {
     0
 }
 
-/// The library's own test of 31: along the front's edge, before anything is written.
+/// Of n cells from a place on, `step` apart: the first of the last z is above the one in front of it, or above 0.
+#[inline(always)]
+fn starts(cells: &[u32], at: usize, n: usize, z: usize, step: usize) -> bool {
+    if z == 0 {
+        return true;
+    }
+    let i = at + (n - z) * step;
+    if z == n { 0 < cells[i] } else { cells[i - step] < cells[i] }
+}
+
+/// The library's own test of 31: where the front begins to hold in each row and in each column, before anything is written.
 #[inline(always)]
 pub fn remove_by_edge(record: &[u8], tally: &mut [u32], sound: Sound) -> u32 {
     let number = ready(record, tally, sound);
     if number != 0 {
         return number;
     }
-    let (n1, w) = (tally[0] as usize, tally[1] as usize + 1);
-    let cells = &tally[HEAD..HEAD + (n1 + 1) * w];
-    let (mut good, mut before) = (record[2] > 0 || cells[(n1 + 1) * w - 1] < tally[2], 0);
-    for (l1, height) in heights(record, n1).enumerate() {
-        let (row, first) = (&cells[l1 * w..][..w], w - height);
-        good &= height == 0 || if first == 0 { 0 < row[0] } else { row[first - 1] < row[first] };
-        if l1 > 0 {
-            let above = &cells[(l1 - 1) * w..][..w];
-            good &= above[first..w - before].iter().zip(&row[first..w - before]).all(|(x, y)| x < y);
-        }
-        before = height;
-    }
-    if !good {
+    let (h, w) = (tally[0] as usize + 1, tally[1] as usize + 1);
+    let cells = &tally[HEAD..HEAD + h * w];
+    let mut wide = [0; 66];
+    record[3..].chunks_exact(2).for_each(|p| wide[p[1] as usize] = p[0] as usize);
+    let rows = heights(record, h - 1).enumerate().fold(true, |all, (l1, z)| all & starts(cells, l1 * w, w, z, 1));
+    let columns = (0..w).fold((true, 0), |(all, z), l2| {
+        let z = z.max(wide[w - l2]);
+        (all & starts(cells, l2, h, z, w), z)
+    });
+    if !(rows & columns.0 & (record[2] > 0 || cells[h * w - 1] < tally[2])) {
         return 31;
     }
     change(record, tally, |x| *x -= 1);

@@ -132,9 +132,10 @@ pub fn table() {
     println!("{:<20} {:>10} {:>10} {:>10} {:>9} {:>9}", "n1 = n2 = 64", "library", "cells", "passes", "/ cells", "/ passes");
     moves(1, rng);
     moves(5, rng);
-    moves(65, rng);
     let tally = moves(20, rng);
+    moves(33, rng);
+    moves(65, rng);
     rates(&tally);
     println!("cells: plain Rust, soundness cell by cell; passes: plain Rust, soundness in the library's passes. A remove tests its outcome");
-    println!("by a second soundness test in cells, and by the front's edge, as the library does, in passes");
+    println!("by a second soundness test in cells, and where the front begins to hold, as the library does, in passes");
 }

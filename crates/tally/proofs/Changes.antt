@@ -1,16 +1,15 @@
--- Cells a row at a time, over lists: the loops of `change_rows` and `rows_ready`; and a whole tally changed.
+-- Cells a line at a time, over lists: the loops of `change_rows` and `lines_start`; and a whole tally changed.
 use mathlib.Core.Path.{_≡_, refl, sym, ap, ap₂, _∙_}
-use mathlib.Core.Logic.{⊎-elim}
 use mathlib.Core.Bool.{Bool, true, false, cond, _&&_}
 use mathlib.Core.List.{List, [], _∷_, _++_, append-nil, append-assoc}
 use Prim.Native.Nat.{ℕ, suc, _+_, _-_, _*_, _≤_, _<_, max}
-use native.Mathlib.Nat.{mul-le-mul-right}
+use native.Mathlib.Nat.{mul-le-mul-right, suc-mul, zero-mul}
 use native.Mathlib.Omega.{arith}
 use lib.Dec.{T}
 use lib.ListN.{length, getD, set, take, drop, length-append, length-drop, length-set}
 use lib.Seq.{getD-append-add, getD-drop, drop-drop, drop-length, drop-set-lt}
 use borrow.Rule.Slice.PartMut.{putMid, post-is}
-use Rattle.laws.specs.Tests.{T-true, T-ext, order, flag}
+use Rattle.laws.specs.Tests.{T-true, T-ext, flag}
 use Rattle.laws.specs.Every.{every, every-next}
 use Rattle.laws.specs.Members.{_∈_}
 use Rattle.front.specs.declared.Pair.{Pair}
@@ -19,9 +18,9 @@ use Rattle.record.proofs.Records.{IsRecord, record-is}
 use Rattle.soundness.specs.Tally.{width, headWords, roundsPlace, tallySize1, tallySize2, rounds, words, cell}
 use Rattle.tally.specs.Cells.{cellRows, heading, tallyOf}
 use Rattle.tally.specs.Calls.{held, added, removed}
-use Rattle.tally.specs.Steps.{changedWord, changedPart, peak, peakAt, CanChange, Fitting, CellsCanChange, changedCell, changedCells, rowReady, rowTest, readyAnswer, Changing, changedTally}
+use Rattle.tally.specs.Steps.{changedWord, changedPart, peak, peakAt, CanChange, Fitting, CellsCanChange, changedCell, changedCells, readyAnswer, Changing, changedTally, startsLine, lineTest, Lines}
 use Rattle.limits.specs.Limits.{maxClass}
-use Rattle.tally.proofs.Peaks.{holds-peak, peak-next, peak-none, peak-most}
+use Rattle.tally.proofs.Peaks.{holds-peak, peak-next, peak-none, peak-most, turn-within}
 use Rattle.answer.specs.Outcome.{success}
 use Rattle.tally.proofs.Tables.{table-length, table-snoc, table-same, row-changed}
 use Rattle.tally.proofs.Headings.{counted, tally-length}
@@ -34,14 +33,47 @@ held-true r n1 n2 l1 l2 h = T-true (recordHolds r (n1 - l1) (n2 - l2)) .0 (holds
 pub held-false : (r : List ℕ) (n1 n2 l1 l2 : ℕ) → peak (listed r) (n1 - l1) ≤ n2 - l2 → recordHolds r (n1 - l1) (n2 - l2) ≡ false
 held-false r n1 n2 l1 l2 h = T-ext (recordHolds r (n1 - l1) (n2 - l2)) false (λ t. absurd (omega (arith, holds-peak (listed r) (n1 - l1) (n2 - l2) .0 t)), λ t. absurd t)
 
--- x − 1 failures of class 1 come next; the rows of more failures are done
-pub record AtRow (r : List ℕ) (n1 n2 y at x : ℕ) : Type 0 where
-  -- at most n1 + 1 positions are left
-  pub upto : x ≤ n1 + 1
-  -- the row that comes next begins here
-  pub place : at ≡ (n1 + 1 - x) * width n2
-  -- the height after x failures of class 1
-  pub height : y ≡ peak (listed r) x
+-- x − 1 failures come next; the lines of more failures are done
+pub record AtLine (l : List Pair) (lines stride y at x : ℕ) : Type 0 where
+  -- at most so many positions are left
+  pub upto : x ≤ lines
+  -- the line that comes next begins here
+  pub place : at ≡ (lines - x) * stride
+  -- the height after x failures
+  pub height : y ≡ peak l x
+
+module _ (l : List Pair) (lines n stride : ℕ) (within : (p : Pair) → p ∈ l → (p .p1 .0 ≤ lines) × (p .p2 .0 ≤ n)) where
+  pub line-first : AtLine l lines stride 0 0 lines
+  line-first =
+      let e : lines - lines ≡ 0 = omega arith in
+      record { upto = omega arith; place = rw e (sym (zero-mul stride)); height = sym (peak-none l lines (λ p m. within p m .0)) }
+
+  module _ {y at x : ℕ} (s : AtLine l lines stride y at x) (some : 0 < x) (z : ℕ) (is : z ≡ max y (peakAt l x)) where
+    pub line-risen : z ≡ peak l (x - 1)
+    line-risen =
+        let e : x ≡ suc (x - 1) = omega arith in
+        is ∙ ap₂ max (s .height ∙ ap (peak l) e) (ap (peakAt l) e) ∙ sym (peak-next l (x - 1))
+
+    pub line-fits : z ≤ n
+    line-fits = omega (arith, line-risen, peak-most l (x - 1) n (λ p m. within p m .1))
+
+    pub line-next : AtLine l lines stride z (at + stride) (x - 1)
+    line-next =
+        let e : suc (lines - x) ≡ lines - (x - 1) = omega (arith, s .upto) in
+        record {
+          upto = omega (arith, s .upto);
+          place = omega (arith, s .place, suc-mul (lines - x) stride, ap (λ k. k * stride) e);
+          height = line-risen;
+        }
+
+    -- the test of a line
+    pub test-next : (cells : List ℕ) (step : ℕ) {all : Bool} → all ≡ every (lines - x) (lineTest l lines cells n stride step)
+        → all && startsLine cells at n z step ≡ every (lines - (x - 1)) (lineTest l lines cells n stride step)
+    test-next cells step {all} e =
+        let q : lines - x + 1 ≡ lines - (x - 1) = omega (arith, s .upto) in
+        let p : x - 1 ≡ lines - 1 - (lines - x) = omega (arith, s .upto) in
+        ap (λ b. all && b) (ap₂ (λ a k. startsLine cells a n k step) (s .place) (line-risen ∙ ap (peak l) p))
+        ∙ every-next (lineTest l lines cells n stride step) (lines - x) e ∙ ap (λ m. every m (lineTest l lines cells n stride step)) q
 
 -- the rows in front are changed, the others as they were
 pub record RowsDone (up down : ℕ) (r old cells : List ℕ) (n1 n2 at x : ℕ) : Type 0 where
@@ -53,38 +85,57 @@ module _ {r old : List ℕ} {n1 n2 : ℕ} (ok : Fitting old r n1 n2) where
   good : IsRecord r
   good = record-is r .0 (ok .is)
 
-  within1 : (p : Pair) → p ∈ listed r → p .p1 .0 ≤ n1 + 1
-  within1 p m = omega (arith, good .form .within p m, ok .one)
-
-  within2 : (p : Pair) → p ∈ listed r → p .p2 .0 ≤ n2 + 1
-  within2 p m = omega (arith, good .form .within p m, ok .two)
+  within : (p : Pair) → p ∈ listed r → (p .p1 .0 ≤ n1 + 1) × (p .p2 .0 ≤ width n2)
+  within p m = (omega (arith, good .form .within p m, ok .one), omega (arith, good .form .within p m, ok .two))
 
   pub small : (n1 ≤ maxClass) × (n2 ≤ maxClass)
   small = (omega (arith, good .small1, ok .one), omega (arith, good .small2, ok .two))
 
-  pub row-first : AtRow r n1 n2 0 0 (n1 + 1)
-  row-first =
-      let e : n1 + 1 - (n1 + 1) ≡ 0 = omega arith in
+  -- the cells as rows, and as columns
+  room-for : (l1 l2 : ℕ) → l1 < n1 + 1 → l2 < width n2 → l1 * width n2 + l2 < length old
+  room-for l1 l2 h k = let b : l1 + 1 ≤ n1 + 1 = omega arith in omega (arith, ok .room, mul-le-mul-right (width n2) b)
+
+  pub rows-lie : Lines old r false (n1 + 1) (width n2) (width n2) 1
+  rows-lie =
       record {
-        upto = omega arith;
-        place = rw e (omega arith);
-        height = sym (peak-none (listed r) (n1 + 1) within1);
+        is = ok .is;
+        few = (omega (arith, small), omega arith, omega (arith, small));
+        within = within;
+        room = λ k i h b. omega (arith, room-for k i h b);
       }
+
+  pub columns-lie : Lines old r true (width n2) (n1 + 1) 1 (width n2)
+  columns-lie =
+      record {
+        is = ok .is;
+        few = (omega (arith, small), omega arith, omega arith);
+        within = turn-within (listed r) (n1 + 1) (width n2) within;
+        room = λ k i h b. omega (arith, room-for i k b h);
+      }
+
+  abbrev AtRow : ℕ → ℕ → ℕ → Type 0
+  AtRow y at x = AtLine (listed r) (n1 + 1) (width n2) y at x
+
+  pub row-first : AtRow 0 0 (n1 + 1)
+  row-first = line-first (listed r) (n1 + 1) (width n2) (width n2) within
 
   pub done-first : (up down : ℕ) → RowsDone up down r old old n1 n2 0 (n1 + 1)
   done-first up down = let e : n1 + 1 - (n1 + 1) ≡ 0 = omega arith in record { done = rw e refl; long = refl }
 
-  module _ {y at x : ℕ} (s : AtRow r n1 n2 y at x) (some : 0 < x) (z : ℕ) (is : z ≡ max y (peakAt (listed r) x)) where
+  module _ {y at x : ℕ} (s : AtRow y at x) (some : 0 < x) (z : ℕ) (is : z ≡ max y (peakAt (listed r) x)) where
     abbrev l1 : ℕ
     l1 = n1 + 1 - x
 
-    pub risen : z ≡ peak (listed r) (n1 - l1)
+    risen : z ≡ peak (listed r) (n1 - l1)
     risen =
-        let e : x ≡ suc (n1 - l1) = omega (arith, s .upto) in
-        is ∙ ap₂ max (s .height ∙ ap (peak (listed r)) e) (ap (peakAt (listed r)) e) ∙ sym (peak-next (listed r) (n1 - l1))
+        let e : x - 1 ≡ n1 - l1 = omega (arith, s .upto) in
+        line-risen (listed r) (n1 + 1) (width n2) (width n2) within s some z is ∙ ap (peak (listed r)) e
 
     pub fits : z ≤ width n2
-    fits = omega (arith, risen, peak-most (listed r) (n1 - l1) (n2 + 1) within2)
+    fits = line-fits (listed r) (n1 + 1) (width n2) (width n2) within s some z is
+
+    pub row-next : AtRow z (at + width n2) (x - 1)
+    row-next = line-next (listed r) (n1 + 1) (width n2) (width n2) within s some z is
 
     pub room : at + width n2 ≤ length old
     room =
@@ -93,15 +144,6 @@ module _ {r old : List ℕ} {n1 n2 : ℕ} (ok : Fitting old r n1 n2) where
 
     next : suc l1 ≡ n1 + 1 - (x - 1)
     next = omega (arith, s .upto)
-
-    pub row-next : AtRow r n1 n2 z (at + width n2) (x - 1)
-    row-next =
-        let q : n1 - l1 ≡ x - 1 = omega (arith, s .upto) in
-        record {
-          upto = omega (arith, s .upto);
-          place = omega (arith, s .place, ap (λ k. k * width n2) (sym next));
-          height = risen ∙ ap (peak (listed r)) q;
-        }
 
     -- the record holds in the last z cells of the row alone
     holds-high : (i : ℕ) → i < z → recordHolds r (n1 - l1) (n2 - (width n2 - z + i)) ≡ true
@@ -152,24 +194,7 @@ module _ {r old : List ℕ} {n1 n2 : ℕ} (ok : Fitting old r n1 n2) where
           whole : length (cellRows (suc l1) (width n2) cell-new ++ drop (at + width n2) old) ≡ length old
           whole = length-append (cellRows (suc l1) (width n2) cell-new) (drop (at + width n2) old) ∙ omega (arith, room, s .place, table-length (suc l1) (width n2) cell-new, length-drop (at + width n2) old)
 
-    -- ---- the test of a row
-    pub lower : y ≤ z
-    lower = omega (arith, is)
-
-    pub after-first : 0 < at → width n2 ≤ at
-    after-first h = ⊎-elim (λ k. omega (arith, s .place, mul-le-mul-right (width n2) k)) (λ k. absurd (none k)) (order 1 l1)
-      where
-        none : l1 < 1 → ⊥
-        none k = let e : l1 ≡ 0 = omega arith in omega (arith, s .place, ap (λ k. k * width n2) e)
-
-    pub test-next : {all : Bool} → all ≡ every (n1 + 1 - x) (rowTest r n1 n2 old) → all && rowReady old at (width n2) y z ≡ every (n1 + 1 - (x - 1)) (rowTest r n1 n2 old)
-    test-next {all} e =
-        let q : l1 + 1 ≡ n1 + 1 - (x - 1) = omega (arith, s .upto) in
-        let p : x ≡ n1 + 1 - l1 = omega (arith, s .upto) in
-        ap (λ b. all && b) (ap (λ a. rowReady old a (width n2) y z) (s .place) ∙ ap₂ (rowReady old (l1 * width n2) (width n2)) (s .height ∙ ap (peak (listed r)) p) risen)
-        ∙ every-next (rowTest r n1 n2 old) l1 e ∙ ap (λ n. every n (rowTest r n1 n2 old)) q
-
-  pub done-last : {up down : ℕ} {cells : List ℕ} {y at x : ℕ} → AtRow r n1 n2 y at x → RowsDone up down r old cells n1 n2 at x → x ≡ 0 → cells ≡ changedCells up down r n1 n2 old
+  pub done-last : {up down : ℕ} {cells : List ℕ} {y at x : ℕ} → AtRow y at x → RowsDone up down r old cells n1 n2 at x → x ≡ 0 → cells ≡ changedCells up down r n1 n2 old
   done-last {up} {down} {cells} {y} {at} {x} s d z =
       let e : n1 + 1 - x ≡ n1 + 1 = omega arith in
       d .done ∙ ap₂ (λ k a. cellRows k (width n2) (λ l1 l2. changedCell up down r n1 n2 l1 l2 (getD old (l1 * width n2 + l2) 0)) ++ drop a old) e (s .place ∙ ap (λ k. k * width n2) e)

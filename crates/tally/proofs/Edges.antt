@@ -1,17 +1,19 @@
 -- The test of 31: the outcome of a remove can fall only where the record begins to hold, and there the cells decide.
 use mathlib.Core.Path.{_≡_, refl, sym, ap, ap₂, subst, _∙_}
-use mathlib.Core.Logic.{_⊎_, inl, inr, ⊎-elim}
+use mathlib.Core.Logic.{_↔_, _⊎_, inl, inr, ⊎-elim}
 use mathlib.Core.Bool.{Bool, true, false, _&&_, _||_}
 use mathlib.Core.List.{List, [], _∷_, append-nil}
-use Prim.Native.Nat.{ℕ, zero, suc, _+_, _-_, _*_, _≤_, _<_}
-use native.Mathlib.Nat.{le-trans}
+use Prim.Native.Nat.{ℕ, suc, _+_, _-_, _*_, _≤_, _<_}
+use native.Mathlib.Nat.{le-trans, suc-mul}
 use native.Mathlib.Omega.{arith}
-use lib.Dec.{leb, ltb}
+use lib.Dec.{ltb}
 use lib.ListN.{getD, drop}
 use lib.Seq.{getD-drop}
 use borrow.Author.Tests.{le-leb, lt-leb, ltb-true, lt-ltb, eq-eqb, ne-eqb}
 use Rattle.laws.specs.Tests.{T-true, T-ext, T-or, and-both, order, equal, flag}
 use Rattle.laws.specs.Every.{every, every-at, every-all}
+use Rattle.laws.specs.Members.{_∈_}
+use Rattle.front.specs.declared.Pair.{Pair}
 use Rattle.answer.specs.Outcome.{success}
 use Rattle.record.specs.Record.{listed, recordHolds}
 use Rattle.record.proofs.Records.{IsRecord, record-is}
@@ -19,14 +21,55 @@ use Rattle.chance.specs.Chance.{Grows}
 use Rattle.chance.proofs.Bounds.{rising-all}
 use Rattle.soundness.specs.Tally.{headWords, tallySize1, tallySize2, rounds, width, cell, Sound}
 use Rattle.tally.specs.Calls.{held, removed, removable}
-use Rattle.tally.specs.Steps.{peak, readyAnswer, climbsBy, startsRow, rowTest}
-use Rattle.tally.proofs.Peaks.{peak-next, peak-most}
+use Rattle.tally.specs.Steps.{peak, readyAnswer, turnAll, startsLine, lineTest}
+use Rattle.tally.proofs.Peaks.{holds-peak, peak-next, peak-most, turn-within, turn-holds}
 use Rattle.tally.proofs.Wholes.{tally-sound}
 use Rattle.tally.proofs.Changes.{held-true, held-false}
 use Rattle.tally.proofs.Readies.{ready-sound, ready-fits, Lowers, removable-means}
 
 both : {a b : Bool} → a ≡ true → b ≡ true → a && b ≡ true
 both e f = rw (e, f)
+
+-- in a line of n cells, the last z of which are to be lowered, the first of these is above the one in front of it, or above 0
+record Begins (f : ℕ → ℕ) (n z : ℕ) : Type 0 where
+  after : (i : ℕ) → suc i < n → suc i ≡ n - z → f i < f (suc i)
+  whole : 0 < n → z ≡ n → 0 < f 0
+
+module _ (cells : List ℕ) (at n z step : ℕ) (fits : z ≤ n) (f : ℕ → ℕ) (is : (i : ℕ) → i < n → getD cells (at + i * step) 0 ≡ f i) where
+  -- the first of them, and the one in front
+  first-at : 0 < z → getD cells (at + (n - z) * step) 0 ≡ f (n - z)
+  first-at h = is (n - z) (omega arith)
+
+  front-at : (i : ℕ) → suc i ≡ n - z → getD cells (at + (n - z) * step - step) 0 ≡ f i
+  front-at i e =
+      let q : at + (n - z) * step - step ≡ at + i * step = omega (arith, suc-mul i step, ap (λ k. k * step) e) in
+      ap (λ k. getD cells k 0) q ∙ is i (omega arith)
+
+  line-is : (startsLine cells at n z step ≡ true) ↔ Begins f n z
+  line-is = (says, ⊎-elim (λ k b. rw (le-leb z 0 k)) (λ k b. ⊎-elim (full k b) (part k b) (equal z n)) (order z 0))
+    where
+      says : startsLine cells at n z step ≡ true → Begins f n z
+      says e =
+          record {
+            after = λ i h q.
+                let s = rw (lt-leb z 0 (omega (arith, q)), ne-eqb z n (λ u. omega (arith, u, q))) at e in
+                omega (arith, ltb-true (getD cells (at + (n - z) * step - step) 0) (getD cells (at + (n - z) * step) 0) s, front-at i q, first-at (omega (arith, q)), ap f q);
+            whole = λ h q.
+                let o : n - z ≡ 0 = omega (arith, q) in
+                let s = rw (lt-leb z 0 (omega (arith, q)), eq-eqb z n q) at e in
+                omega (arith, ltb-true 0 (getD cells (at + (n - z) * step) 0) s, first-at (omega (arith, q)), ap f o);
+          }
+
+      full : 0 < z → Begins f n z → z ≡ n → startsLine cells at n z step ≡ true
+      full k b q =
+          let o : n - z ≡ 0 = omega (arith, q) in
+          rw (lt-leb z 0 k, eq-eqb z n q) (lt-ltb 0 (getD cells (at + (n - z) * step) 0) (omega (arith, b .whole (omega arith) q, first-at k, ap f o)))
+
+      part : 0 < z → Begins f n z → (z ≡ n → ⊥) → startsLine cells at n z step ≡ true
+      part k b q =
+          let lt : z < n = omega (arith, q) in
+          let e : suc (n - z - 1) ≡ n - z = omega arith in
+          rw (lt-leb z 0 k, ne-eqb z n q) (lt-ltb (getD cells (at + (n - z) * step - step) 0) (getD cells (at + (n - z) * step) 0) (omega (arith, b .after (n - z - 1) (omega arith) e, front-at (n - z - 1) e, first-at k, ap f e)))
 
 module _ (r t : List ℕ) (ok : readyAnswer r t ≡ success (0 ∷ [])) where
   abbrev n1 : ℕ
@@ -54,12 +97,29 @@ module _ (r t : List ℕ) (ok : readyAnswer r t ≡ success (0 ∷ [])) where
   good : IsRecord r
   good = record-is r .0 (ready-fits r t ok .0)
 
-  high-most : (l1 : ℕ) → high l1 ≤ w
-  high-most l1 = peak-most (listed r) (n1 - l1) (n2 + 1) (λ p m. omega (arith, good .form .within p m, ready-fits r t ok .2))
+  within : (p : Pair) → p ∈ listed r → (p .p1 .0 ≤ n1 + 1) × (p .p2 .0 ≤ w)
+  within p m = (omega (arith, good .form .within p m, ready-fits r t ok .1), omega (arith, good .form .within p m, ready-fits r t ok .2))
 
-  -- the row in front
-  before-is : (l1 : ℕ) → peak (listed r) (n1 + 1 - suc l1) ≡ high l1
-  before-is l1 = let e : n1 + 1 - suc l1 ≡ n1 - l1 = omega arith in ap (peak (listed r)) e
+  high-most : (l1 : ℕ) → high l1 ≤ w
+  high-most l1 = peak-most (listed r) (n1 - l1) w (λ p m. within p m .1)
+
+  -- and of the columns: the record holds in the last cells of both
+  abbrev wide : ℕ → ℕ
+  wide l2 = peak (turnAll true (listed r)) (n2 - l2)
+
+  wide-most : (l2 : ℕ) → wide l2 ≤ n1 + 1
+  wide-most l2 = peak-most (turnAll true (listed r)) (n2 - l2) (n1 + 1) (λ p m. turn-within (listed r) (n1 + 1) w within p m .1)
+
+  both-ways : (l1 l2 : ℕ) → l1 ≤ n1 → l2 ≤ n2 → (w - high l1 ≤ l2) ↔ (n1 + 1 - wide l2 ≤ l1)
+  both-ways l1 l2 h k =
+      let a = n1 - l1 in
+      let b = n2 - l2 in
+      let row = holds-peak (listed r) a b in
+      let column = holds-peak (turnAll true (listed r)) b a in
+      let turned = turn-holds (listed r) a b in (
+        λ q. omega (arith, column .0 (turned .0 (row .1 (omega (arith, high-most l1))))),
+        λ q. omega (arith, row .0 (turned .1 (column .1 (omega (arith, wide-most l2))))),
+      )
 
   rises : (l1 : ℕ) → l1 < n1 → high l1 ≤ high (suc l1)
   rises l1 h =
@@ -72,9 +132,18 @@ module _ (r t : List ℕ) (ok : readyAnswer r t ≡ success (0 ∷ [])) where
   held-none : (l1 l2 : ℕ) → l2 < w - high l1 → held r n1 n2 l1 l2 ≡ 0
   held-none l1 l2 h = ap (λ b. flag b) (held-false r n1 n2 l1 l2 (omega arith))
 
-  -- ---- what the tests of the rows say
-  abbrev first : ℕ → ℕ
-  first l1 = cell t l1 (w - high l1)
+  -- ---- what the tests of the lines say
+  row-is : (l1 : ℕ) → l1 ≤ n1 → (lineTest (listed r) (n1 + 1) cells w w 1 l1 ≡ true) ↔ Begins (cell t l1) w (high l1)
+  row-is l1 h =
+      let e : n1 - l1 ≡ n1 + 1 - 1 - l1 = omega arith in
+      subst (λ z. (startsLine cells (l1 * w) w z 1 ≡ true) ↔ Begins (cell t l1) w (high l1)) (ap (peak (listed r)) e)
+      (line-is cells (l1 * w) w (high l1) 1 (high-most l1) (cell t l1) (λ i b. at-cell l1 i (l1 * w + i * 1) (omega arith)))
+
+  column-is : (l2 : ℕ) → l2 ≤ n2 → (lineTest (turnAll true (listed r)) w cells (n1 + 1) 1 w l2 ≡ true) ↔ Begins (λ l1. cell t l1 l2) (n1 + 1) (wide l2)
+  column-is l2 h =
+      let e : n2 - l2 ≡ w - 1 - l2 = omega arith in
+      subst (λ z. (startsLine cells (l2 * 1) (n1 + 1) z w ≡ true) ↔ Begins (λ l1. cell t l1 l2) (n1 + 1) (wide l2)) (ap (peak (turnAll true (listed r))) e)
+      (line-is cells (l2 * 1) (n1 + 1) (wide l2) w (wide-most l2) (λ l1. cell t l1 l2) (λ i b. at-cell i l2 (l2 * 1 + i * w) (omega arith)))
 
   -- where the record begins to hold in a row, and where it begins to hold with one more of class 1
   record Edges : Type 0 where
@@ -83,77 +152,43 @@ module _ (r t : List ℕ) (ok : readyAnswer r t ≡ success (0 ∷ [])) where
     down : (l1 l2 : ℕ) → l1 < n1 → l2 ≤ n2 → w - high (suc l1) ≤ l2 → l2 < w - high l1 → cell t l1 l2 < cell t (suc l1) l2
 
   abbrev rows : Bool
-  rows = every (n1 + 1) (rowTest r n1 n2 cells)
+  rows = every (n1 + 1) (lineTest (listed r) (n1 + 1) cells w w 1)
 
-  abbrev starts : ℕ → Bool
-  starts l1 = startsRow cells (l1 * w) w (high l1)
+  abbrev columns : Bool
+  columns = every w (lineTest (turnAll true (listed r)) w cells (n1 + 1) 1 w)
 
-  row-starts : rows ≡ true → (l1 : ℕ) → l1 ≤ n1 → starts l1 ≡ true
-  row-starts e l1 h =
-      and-both (starts l1) (leb (l1 * w) 0 || climbsBy cells (l1 * w - high l1) w (high l1 - peak (listed r) (n1 + 1 - l1))) (every-at (rowTest r n1 n2 cells) (n1 + 1) e l1 (omega arith)) .0
-
-  edges : rows ≡ true → Edges
-  edges e =
+  edges : rows ≡ true → columns ≡ true → Edges
+  edges e f =
       record {
-        along = λ l1 l2 h k q.
-            let z : 0 < high l1 = omega (arith, q) in
-            let s = rw (lt-leb (high l1) 0 z, ne-eqb (high l1) w (λ u. omega (arith, u, q))) at (row-starts e l1 h) in
-            let i : l1 * w + (w - high l1) ≡ l1 * w + suc l2 = omega (arith, q) in
-            let j : l1 * w + (w - high l1) - 1 ≡ l1 * w + l2 = omega (arith, q) in
-            rw (← at-cell l1 l2 (l1 * w + (w - high l1) - 1) j, ← at-cell l1 (suc l2) (l1 * w + (w - high l1)) i) (ltb-true (getD cells (l1 * w + (w - high l1) - 1) 0) (getD cells (l1 * w + (w - high l1)) 0) s);
-        whole = λ l1 h q.
-            let z : 0 < high l1 = omega (arith, q) in
-            let s = rw (lt-leb (high l1) 0 z, eq-eqb (high l1) w (sym q)) at (row-starts e l1 h) in
-            let i : l1 * w + (w - high l1) ≡ l1 * w + 0 = omega (arith, q) in
-            rw (← at-cell l1 0 (l1 * w + (w - high l1)) i) (ltb-true 0 (getD cells (l1 * w + (w - high l1)) 0) s);
-        down = below;
+        along = λ l1 l2 h k q. row l1 h .after l2 (omega arith) q;
+        whole = λ l1 h q. row l1 h .whole (omega arith) (sym q);
+        down = λ l1 l2 h k p q.
+            let at = both-ways (suc l1) l2 h k .0 p in
+            column l2 k .after l1 (omega arith) (⊎-elim (λ j. absurd (omega (arith, both-ways l1 l2 (omega arith) k .1 j))) (λ j. omega arith) (order (n1 + 1 - wide l2) l1));
       }
     where
-      below : (l1 l2 : ℕ) → l1 < n1 → l2 ≤ n2 → w - high (suc l1) ≤ l2 → l2 < w - high l1 → cell t l1 l2 < cell t (suc l1) l2
-      below l1 l2 h k p q =
-          let z = high (suc l1) in
-          let y = peak (listed r) (n1 + 1 - suc l1) in
-          let u = and-both (starts (suc l1)) (leb (suc l1 * w) 0 || climbsBy cells (suc l1 * w - z) w (z - y)) (every-at (rowTest r n1 n2 cells) (n1 + 1) e (suc l1) (omega arith)) .1 in
-          let v = rw (lt-leb (suc l1 * w) 0 (omega arith)) at u in
-          let i = l2 - (w - z) in
-          let b : i < z - y = omega (arith, before-is l1, high-most (suc l1)) in
-          let m : suc l1 * w - z + i ≡ l1 * w + l2 = omega (arith, high-most (suc l1)) in
-          let o : suc l1 * w - z + i + w ≡ suc l1 * w + l2 = omega (arith, high-most (suc l1)) in
-          rw (← at-cell l1 l2 (suc l1 * w - z + i) m, ← at-cell (suc l1) l2 (suc l1 * w - z + i + w) o)
-          (ltb-true (getD cells (suc l1 * w - z + i) 0) (getD cells (suc l1 * w - z + i + w) 0) (every-at (λ i. ltb (getD cells (suc l1 * w - z + i) 0) (getD cells (suc l1 * w - z + i + w) 0)) (z - y) v i b))
+      row : (l1 : ℕ) → l1 ≤ n1 → Begins (cell t l1) w (high l1)
+      row l1 h = row-is l1 h .0 (every-at (lineTest (listed r) (n1 + 1) cells w w 1) (n1 + 1) e l1 (omega arith))
+
+      column : (l2 : ℕ) → l2 ≤ n2 → Begins (λ l1. cell t l1 l2) (n1 + 1) (wide l2)
+      column l2 h = column-is l2 h .0 (every-at (lineTest (turnAll true (listed r)) w cells (n1 + 1) 1 w) w f l2 (omega arith))
 
   edge-rows : Edges → rows ≡ true
-  edge-rows d = every-all (rowTest r n1 n2 cells) (n1 + 1) (λ l1 h. both (begins l1 (omega arith)) (later l1 (omega arith)))
+  edge-rows d =
+      every-all (lineTest (listed r) (n1 + 1) cells w w 1) (n1 + 1) (λ l1 h.
+      row-is l1 (omega arith) .1 (record { after = λ i b q. d .along l1 i (omega arith) (omega arith) q; whole = λ b q. d .whole l1 (omega arith) (sym q) }))
+
+  edge-columns : Edges → ((l1 l2 : ℕ) → l1 ≤ n1 → l2 ≤ n2 → held r n1 n2 l1 l2 ≤ cell t l1 l2) → columns ≡ true
+  edge-columns d some =
+      every-all (lineTest (turnAll true (listed r)) w cells (n1 + 1) 1 w) w (λ l2 h. column-is l2 (omega arith) .1 (record { after = λ i b q. falls l2 (omega arith) i (omega arith) q; whole = λ b q. top l2 (omega arith) q }))
     where
-      begins : (l1 : ℕ) → l1 ≤ n1 → starts l1 ≡ true
-      begins l1 h = ⊎-elim (λ k. rw (le-leb (high l1) 0 k)) (λ k. ⊎-elim (full k) (part k) (equal (high l1) w)) (order (high l1) 0)
-        where
-          full : 0 < high l1 → high l1 ≡ w → starts l1 ≡ true
-          full k q =
-              let i : l1 * w + (w - high l1) ≡ l1 * w + 0 = omega (arith, q) in
-              rw (lt-leb (high l1) 0 k, eq-eqb (high l1) w q, at-cell l1 0 (l1 * w + (w - high l1)) i) (lt-ltb 0 (cell t l1 0) (d .whole l1 h (sym q)))
+      falls : (l2 : ℕ) → l2 ≤ n2 → (l1 : ℕ) → l1 < n1 → suc l1 ≡ n1 + 1 - wide l2 → cell t l1 l2 < cell t (suc l1) l2
+      falls l2 k l1 h q =
+          d .down l1 l2 h k (both-ways (suc l1) l2 h k .1 (omega (arith, q)))
+          (⊎-elim (λ j. absurd (omega (arith, q, both-ways l1 l2 (omega arith) k .0 j))) (λ j. j) (order (w - high l1) l2))
 
-          part : 0 < high l1 → (high l1 ≡ w → ⊥) → starts l1 ≡ true
-          part k q =
-              let l2 = w - high l1 - 1 in
-              let lt : high l1 < w = omega (arith, q, high-most l1) in
-              let e : suc l2 ≡ w - high l1 = omega arith in
-              let i : l1 * w + (w - high l1) ≡ l1 * w + suc l2 = omega arith in
-              let j : l1 * w + (w - high l1) - 1 ≡ l1 * w + l2 = omega arith in
-              rw (lt-leb (high l1) 0 k, ne-eqb (high l1) w q, at-cell l1 (suc l2) (l1 * w + (w - high l1)) i, at-cell l1 l2 (l1 * w + (w - high l1) - 1) j) (lt-ltb (cell t l1 l2) (cell t l1 (suc l2)) (d .along l1 l2 h (omega arith) e))
-
-      later : (l1 : ℕ) → l1 ≤ n1 → leb (l1 * w) 0 || climbsBy cells (l1 * w - high l1) w (high l1 - peak (listed r) (n1 + 1 - l1)) ≡ true
-      later zero h = let e : 0 * w ≤ 0 = omega arith in rw (le-leb (0 * w) 0 e)
-      later (suc l1) h =
-          let z = high (suc l1) in
-          let y = peak (listed r) (n1 + 1 - suc l1) in
-          rw (lt-leb (suc l1 * w) 0 (omega arith))
-          (every-all (λ i. ltb (getD cells (suc l1 * w - z + i) 0) (getD cells (suc l1 * w - z + i + w) 0)) (z - y) (λ i b.
-          let l2 = w - z + i in
-          let m : suc l1 * w - z + i ≡ l1 * w + l2 = omega (arith, high-most (suc l1)) in
-          let o : suc l1 * w - z + i + w ≡ suc l1 * w + l2 = omega (arith, high-most (suc l1)) in
-          rw (at-cell l1 l2 (suc l1 * w - z + i) m, at-cell (suc l1) l2 (suc l1 * w - z + i + w) o)
-          (lt-ltb (cell t l1 l2) (cell t (suc l1) l2) (d .down l1 l2 (omega arith) (omega (arith, high-most (suc l1))) (omega arith) (omega (arith, before-is l1, high-most (suc l1)))))))
+      top : (l2 : ℕ) → l2 ≤ n2 → wide l2 ≡ n1 + 1 → 0 < cell t 0 l2
+      top l2 k q = omega (arith, some 0 l2 (omega arith) k, held-one 0 l2 k (both-ways 0 l2 (omega arith) k .1 (omega (arith, q))))
 
   -- ---- the outcome
   abbrev m : ℕ
@@ -273,13 +308,16 @@ module _ (r t : List ℕ) (ok : readyAnswer r t ≡ success (0 ∷ [])) where
         go true q = refl
         go false q = rw (at-cell n1 n2 (n1 * w + n2) refl) (lt-ltb (cell t n1 n2) m (omega (arith, last-held false q, grown .below n1 n2 (omega arith) (omega arith), low .0)))
 
-    removable-ready : rows && top ≡ true
-    removable-ready = both (edge-rows its-edges) its-top
+    removable-ready : rows && columns && top ≡ true
+    removable-ready = both (both (edge-rows its-edges) (edge-columns its-edges (low .1))) its-top
 
   -- THE CODE'S TEST is that of 31
-  pub removable-is : (rows && top) ≡ removable r t
+  pub removable-is : (rows && columns && top) ≡ removable r t
   removable-is =
-      T-ext (rows && top) (removable r t) (
-        λ y. let k = and-both rows top (T-true (rows && top) .0 y) in T-true (removable r t) .1 (ready-removable (edges (k .0)) (k .1)),
-        λ y. T-true (rows && top) .1 (removable-ready (T-true (removable r t) .0 y)),
+      T-ext (rows && columns && top) (removable r t) (
+        λ y.
+            let k = and-both (rows && columns) top (T-true (rows && columns && top) .0 y) in
+            let j = and-both rows columns (k .0) in
+            T-true (removable r t) .1 (ready-removable (edges (j .0) (j .1)) (k .1)),
+        λ y. T-true (rows && columns && top) .1 (removable-ready (T-true (removable r t) .0 y)),
       )

@@ -1,22 +1,33 @@
 -- STEPS: what proofs and the contracts between our crates speak of. Nobody has to believe these: no promise to a caller cites them.
 use mathlib.Core.Path.{_≡_}
-use mathlib.Core.Bool.{Bool, cond, _&&_, _||_}
-use mathlib.Core.List.{List, [], _∷_, _++_}
+use mathlib.Core.Bool.{Bool, true, false, cond, _&&_, _||_}
+use mathlib.Core.List.{List, [], _∷_, _++_, map}
 use Prim.Native.Nat.{ℕ, _+_, _-_, _*_, _≤_, _<_, max}
 use lib.Dec.{T, eqb, leb, ltb}
 use lib.ListN.{length, getD, drop, take}
+use Rattle.limits.specs.Limits.{maxPosition}
 use Rattle.record.specs.Record.{isRecord, listed, recordHolds, recordSize1, recordSize2}
 use Rattle.soundness.specs.Tally.{headWords, tallySize1, tallySize2, rounds, width, words, cell, Sound}
 use Rattle.laws.specs.Tests.{flag}
 use Rattle.laws.specs.Lists.{listTo}
+use Rattle.laws.specs.Members.{_∈_}
 use Rattle.laws.specs.Every.{every}
 use Rattle.answer.specs.Outcome.{Outcome, outcome}
 use Rattle.front.specs.declared.Pair.{Pair}
+use Rattle.front.specs.Pair.{pairOf}
 use Rattle.tally.specs.Calls.{readyTests}
 use Rattle.tally.specs.Cells.{cellRows, tallyOf}
 
 abbrev pub readyAnswer : List ℕ → List ℕ → Outcome
 readyAnswer r t = outcome (readyTests r t) (0 ∷ [])
+
+-- ---- pairs as they are, or with their positions exchanged
+abbrev pub turn : Bool → Pair → Pair
+turn flip p = cond flip (pairOf (p .p2 .0) (p .p1 .0)) p
+
+abbrev pub turnAll : Bool → List Pair → List Pair
+turnAll true l = map (turn true) l
+turnAll false l = l
 
 -- ---- heights of a list of pairs, as the code has them
 -- the largest p2 of the pairs with p1 above a, and of those with p1 = x; 0 where there is none
@@ -74,22 +85,29 @@ changedTally up down r t =
     let n2 = tallySize2 t in
     tallyOf n1 n2 (changedWord up down (rounds t)) (λ l1 l2. changedCell up down r n1 n2 l1 l2 (cell t l1 l2)) ++ drop (words n1 n2) t
 
--- ---- the test of 31 as the code makes it: only where the record begins to hold can the outcome fall
--- each of `count` cells from `at` on is below the one `step` places later
-abbrev pub climbsBy : List ℕ → ℕ → ℕ → ℕ → Bool
-climbsBy cells at step count = every count (λ i. ltb (getD cells (at + i) 0) (getD cells (at + i + step) 0))
+-- ---- the test of 31 as the code makes it: only where the record begins to hold, in a row or in a column, can the outcome fall
+-- of n cells from `at` on, `step` apart: the first of the last z is above the one in front of it, or above 0 where there is none
+abbrev pub startsLine : List ℕ → ℕ → ℕ → ℕ → ℕ → Bool
+startsLine cells at n z step =
+    leb z 0
+    || cond (eqb z n) (ltb 0 (getD cells (at + (n - z) * step) 0)) (ltb (getD cells (at + (n - z) * step - step) 0) (getD cells (at + (n - z) * step) 0))
 
--- in a row of w from `at` on: the first of the last z cells is above 0 and above the cell in front of it
-abbrev pub startsRow : List ℕ → ℕ → ℕ → ℕ → Bool
-startsRow cells at w z =
-    leb z 0 || cond (eqb z w) (ltb 0 (getD cells (at + (w - z)) 0)) (ltb (getD cells (at + (w - z) - 1) 0) (getD cells (at + (w - z)) 0))
+-- in line k of `lines`, whose cells are where the pairs hold after lines − 1 − k failures
+abbrev pub lineTest : List Pair → ℕ → List ℕ → ℕ → ℕ → ℕ → ℕ → Bool
+lineTest l lines cells n stride step k = startsLine cells (k * stride) n (peak l (lines - 1 - k)) step
 
--- and each of the last z cells but y is above the cell of the row in front
-abbrev pub rowReady : List ℕ → ℕ → ℕ → ℕ → ℕ → Bool
-rowReady cells at w y z = startsRow cells at w z && (leb at 0 || climbsBy cells (at - z) w (z - y))
+-- every row, and every column
+abbrev pub edgesTest : List ℕ → ℕ → ℕ → List ℕ → Bool
+edgesTest r n1 n2 cells =
+    every (n1 + 1) (lineTest (listed r) (n1 + 1) cells (width n2) (width n2) 1)
+    && every (width n2) (lineTest (turnAll true (listed r)) (width n2) cells (n1 + 1) 1 (width n2))
 
-abbrev pub rowTest : List ℕ → ℕ → ℕ → List ℕ → ℕ → Bool
-rowTest r n1 n2 cells l1 = rowReady cells (l1 * width n2) (width n2) (peak (listed r) (n1 + 1 - l1)) (peak (listed r) (n1 - l1))
+-- lines of cells, and a record whose pairs are within them
+pub record Lines (cells r : List ℕ) (flip : Bool) (lines n stride step : ℕ) : Type 0 where
+  pub is : T (isRecord r)
+  pub few : (lines ≤ maxPosition) × (0 < n) × (stride ≤ maxPosition)
+  pub within : (p : Pair) → p ∈ turnAll flip (listed r) → (p .p1 .0 ≤ lines) × (p .p2 .0 ≤ n)
+  pub room : (k i : ℕ) → k < lines → i < n → k * stride + i * step < length cells
 
 -- ---- the tally of a list of records, in whatever order
 -- how many of them hold at (a, b)

@@ -1,6 +1,8 @@
 // Tallies: for each count of working nodes, how many of the rounds that were added hold.
 use answer::Done;
 use answer::Refusal;
+use front::Pair;
+use front::Pos1;
 use front::Pos2;
 use limits::MAX_CLASS;
 use limits::MAX_POSITION;
@@ -19,7 +21,7 @@ ghost use Rattle.laws.specs.Every.{every};
 ghost use Rattle.answer.specs.Outcome.{success, done};
 ghost use Rattle.record.specs.Record.{listed, isRecord, recordHolds};
 ghost use Rattle.soundness.specs.Tally.{headWords, roundsPlace, rounds, width};
-ghost use Rattle.tally.specs.Steps.{peakAt, readyAnswer, climbsBy, startsRow, rowReady, rowTest};
+ghost use Rattle.tally.specs.Steps.{turn, turnAll, peakAt, readyAnswer, startsLine, Lines, lineTest, edgesTest};
 ghost use Rattle.tally.specs.Steps.{changedWord, CanChange, changedPart, Fitting, CellsCanChange, changedCells, Changing, changedTally};
 ghost use Rattle.tally.specs.Calls.{newAnswer, newOut, fitsTally, addAnswer, addOut, removable, removeAnswer, removeOut};
 
@@ -63,16 +65,29 @@ fn larger(x: Pos2, y: Pos2) -> Pos2
     if x.at_least(y) { x } else { y }
 }
 
-// For each p1 the largest p2 of the record's pairs, or 0.
-fn heights(record: &[u8]) -> [u8; MAX_POSITION + 1]
+// A pair, or with `flip` the pair with its positions exchanged: the front read by class 2.
+fn turned(p: Pair, flip: bool) -> Pair
+    ensures { λ r. ⌜ r ≡ turn flip p ⌝ }
+{
+    if flip {
+        return Pair {
+            p1: Pos1(p.p2.0),
+            p2: Pos2(p.p1.0),
+        };
+    }
+    p
+}
+
+// For each p1 the largest p2 of the record's pairs, or 0; with `flip` for each p2 the largest p1.
+fn heights(record: &[u8], flip: bool) -> [u8; MAX_POSITION + 1]
     requires { ⌜ T (isRecord (now «record»)) ⌝ }
-    ensures { λ r. ⌜ (length r ≡ maxPosition + 1) × ((x : ℕ) → x < maxPosition + 1 → getD r x 0 ≡ peakAt (listed (now («record» .entry))) x) ⌝ }
+    ensures { λ r. ⌜ (length r ≡ maxPosition + 1) × ((x : ℕ) → x < maxPosition + 1 → getD r x 0 ≡ peakAt (turnAll flip (listed (now («record» .entry)))) x) ⌝ }
 {
     let mut heights = [0u8; MAX_POSITION + 1];
     let k = record::read_head(record).k;
     let mut i: u8 = 0;
     while i < k {
-        let p = record::pair_at(record, i);
+        let p = turned(record::pair_at(record, i), flip);
         let x = slices::wide(p.p1.0);
         heights[x] = larger(Pos2(heights[x]), p.p2).0;
         i += 1;
@@ -100,7 +115,7 @@ fn change_rows(cells: &mut [u32], record: &[u8], n1: u8, n2: u8, up: u32, down: 
     requires { ⌜ Fitting (now cells) (now «record») n1 n2 × CellsCanChange up down (now «record») n1 n2 (now cells) ⌝ }
     ensures { λ _. ⌜ now (cells .exit) ≡ changedCells up down (now («record» .entry)) n1 n2 (now (cells .entry)) ⌝ }
 {
-    let top = heights(record);
+    let top = heights(record, false);
     let w = slices::wide(n2) + 1;
     let mut y = Pos2(0);
     let mut at = 0;
@@ -187,70 +202,62 @@ pub fn add(record: &[u8], tally: &mut [u32]) -> Done
 }
 
 // ---- remove
-// In a sound tally an outcome can go wrong only where the record begins to hold, from one cell to the next or from one
-// row to the next; so only these cells are compared, and nothing is written before the answer is known.
+// In a sound tally an outcome can go wrong only where the record begins to hold in a row or in a
+// column; so only there cells are compared, and nothing is written before the answer is known.
 
-// Whether each of `count` cells from a place on is below the one `step` places later.
-fn climbs(cells: &[u32], at: usize, count: usize, step: usize) -> bool
-    requires { ⌜ at + count + step ≤ length (now cells) ⌝ }
-    ensures { λ r. ⌜ r ≡ climbsBy (now (cells .entry)) at step count ⌝ }
-{
-    let mut all = true;
-    let mut i = 0;
-    while i < count {
-        all = all & (cells[at + i] < cells[at + i + step]);
-        i += 1;
-    }
-    all
-}
-
-// Whether the first of the last z cells of a row of w is above 0 and above the cell in front of it.
-fn starts(cells: &[u32], at: usize, w: usize, z: usize) -> bool
-    requires { ⌜ (z ≤ w) × (at + w ≤ length (now cells)) ⌝ }
-    ensures { λ r. ⌜ r ≡ startsRow (now (cells .entry)) at w z ⌝ }
+// Of n cells from a place on, `step` apart: whether the first of the last z is above the one in
+// front of it, or above 0 where there is none.
+fn starts(cells: &[u32], at: usize, n: usize, z: usize, step: usize) -> bool
+    requires { ⌜ (z ≤ n) × ((i : ℕ) → i < n → at + i * step < length (now cells)) ⌝ }
+    ensures { λ r. ⌜ r ≡ startsLine (now (cells .entry)) at n z step ⌝ }
 {
     if z == 0 {
         return true;
     }
-    let i = at + (w - z);
-    if z == w {
+    let i = at + (n - z) * step;
+    if z == n {
         return 0 < cells[i];
     }
-    cells[i - 1] < cells[i]
+    cells[i - step] < cells[i]
 }
 
-// Whether a row can be lowered in its last z cells, the row in front of it in its last y.
-fn row_ready(cells: &[u32], at: usize, w: usize, y: usize, z: usize) -> bool
-    requires { ⌜ (y ≤ z) × (z ≤ w) × (at + w ≤ length (now cells)) × (0 < at → w ≤ at) ⌝ }
-    ensures { λ r. ⌜ r ≡ rowReady (now (cells .entry)) at w y z ⌝ }
+// The same of each of some lines, `stride` apart, for the cells where the record holds: of the rows,
+// or with `flip` of the columns.
+fn lines_start(
+    cells: &[u32],
+    record: &[u8],
+    flip: bool,
+    lines: usize,
+    n: usize,
+    stride: usize,
+    step: usize,
+) -> bool
+    requires { ⌜ Lines (now cells) (now «record») flip lines n stride step ⌝ }
+    ensures { λ r. ⌜ r ≡ every lines (lineTest (turnAll flip (listed (now («record» .entry)))) lines (now (cells .entry)) n stride step) ⌝ }
 {
-    let first = starts(cells, at, w, z);
-    if at == 0 {
-        return first;
-    }
-    first & climbs(cells, at - z, z - y, w)
-}
-
-// Whether each row can be lowered where the record holds.
-fn rows_ready(cells: &[u32], record: &[u8], n1: u8, n2: u8) -> bool
-    requires { ⌜ Fitting (now cells) (now «record») n1 n2 ⌝ }
-    ensures { λ r. ⌜ r ≡ every (n1 + 1) (rowTest (now («record» .entry)) n1 n2 (now (cells .entry))) ⌝ }
-{
-    let top = heights(record);
-    let w = slices::wide(n2) + 1;
+    let top = heights(record, flip);
     let mut all = true;
     let mut y = Pos2(0);
     let mut at = 0;
-    let mut x = slices::wide(n1) + 1;
+    let mut x = lines;
     while 0 < x {
-        let j = slices::wide(y.0);
         y = larger(y, Pos2(top[x]));
-        let k = slices::wide(y.0);
-        all = all & row_ready(cells, at, w, j, k);
-        at += w;
+        all = all & starts(cells, at, n, slices::wide(y.0), step);
+        at += stride;
         x -= 1;
     }
     all
+}
+
+// The same of every row and of every column.
+fn edges_ready(cells: &[u32], record: &[u8], n1: u8, n2: u8) -> bool
+    requires { ⌜ Fitting (now cells) (now «record») n1 n2 ⌝ }
+    ensures { λ r. ⌜ r ≡ edgesTest (now («record» .entry)) n1 n2 (now (cells .entry)) ⌝ }
+{
+    let h = slices::wide(n1) + 1;
+    let w = slices::wide(n2) + 1;
+    let rows = lines_start(cells, record, false, h, w, w, 1);
+    rows & lines_start(cells, record, true, w, h, 1, w)
 }
 
 // Whether the record holds with all working, or the last cell is below m.
@@ -268,8 +275,8 @@ fn can_remove(record: &[u8], tally: &[u32]) -> bool
     ensures { λ r. ⌜ r ≡ removable (now («record» .entry)) (now (tally .entry)) ⌝ }
 {
     let head = record::read_head(record);
-    let rows = rows_ready(&tally[HEAD..], record, head.n1, head.n2);
-    rows & top_ready(&tally[HEAD..], record, head.n1, head.n2, tally[ROUNDS])
+    let edges = edges_ready(&tally[HEAD..], record, head.n1, head.n2);
+    edges & top_ready(&tally[HEAD..], record, head.n1, head.n2, tally[ROUNDS])
 }
 
 // Removes a front record that is ready: number 31.

@@ -19,17 +19,17 @@ has-head s = ready-long (s .args .«record» .now) (s .args .tally .now) (s .pre
 read-head-requires : tie.Need-read-head-requires
 read-head-requires c κs = search needs
 
-sub-rows-ready : tie.Need-sub-rows-ready
-sub-rows-ready c = has-head (c .before .before .before)
+sub-edges-ready : tie.Need-sub-edges-ready
+sub-edges-ready c = has-head (c .before .before .before)
 
-part-rows-ready-start : tie.Need-part-rows-ready-start
-part-rows-ready-start c = has-head (c .before .before .before)
+part-edges-ready-start : tie.Need-part-edges-ready-start
+part-edges-ready-start c = has-head (c .before .before .before)
 
-part-rows-ready-end : tie.Need-part-rows-ready-end
-part-rows-ready-end c = search needs
+part-edges-ready-end : tie.Need-part-edges-ready-end
+part-edges-ready-end c = search needs
 
-rows-ready-requires : tie.Need-rows-ready-requires
-rows-ready-requires c κs =
+edges-ready-requires : tie.Need-edges-ready-requires
+edges-ready-requires c κs =
     let s = c .before .before .before .before in
     let r = s .args .«record» .now in
     let t = s .args .tally .now in
@@ -65,17 +65,17 @@ returns c =
     let t = s .args .tally .now in
     let h = c .before .before .before .before .before .read-head .ensures in
     let e = ready-fits r t (s .pre) in
-    ap₂ _&&_ (rw (tail-part t headWords, h .0, h .1, e .1, e .2) at (c .before .before .before .rows-ready .ensures)) (rw (tail-part t headWords, h .0, h .1, e .1, e .2) at (c .top-ready .ensures)) ∙ removable-is r t (s .pre)
+    ap₂ _&&_ (rw (tail-part t headWords, h .0, h .1, e .1, e .2) at (c .before .before .before .edges-ready .ensures)) (rw (tail-part t headWords, h .0, h .1, e .1, e .2) at (c .top-ready .ensures)) ∙ removable-is r t (s .pre)
 
 pub can-remove-spec : {M : Type 1} → statement M
 can-remove-spec =
     tie.close
     (tie.spec
     read-head-requires
-    sub-rows-ready
-    part-rows-ready-start
-    part-rows-ready-end
-    rows-ready-requires
+    sub-edges-ready
+    part-edges-ready-start
+    part-edges-ready-end
+    edges-ready-requires
     sub-top-ready
     part-top-ready-start
     part-top-ready-end

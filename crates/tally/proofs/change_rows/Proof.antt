@@ -8,13 +8,13 @@ use Rattle.record.specs.Record.{listed}
 use Rattle.soundness.specs.Tally.{width}
 use Rattle.tally.specs.Steps.{peakAt}
 use Rattle.limits.specs.Limits.{maxPosition}
-use Rattle.tally.proofs.Changes.{AtRow, RowsDone, small, row-first, done-first, fits, room, later, row-next, done-next, done-last}
+use Rattle.tally.proofs.Changes.{AtLine, RowsDone, small, row-first, done-first, fits, room, later, row-next, done-next, done-last}
 use Rattle.tally.proofs.change_rows.Statement.{statement}
 use Rattle.tally.proofs.change_rows.Tie as tie
 
 abbrev Inv-loop : tie.InvT-loop
 Inv-loop cells₀ «record» n1 n2 up down top w y₀ at₀ x₀ cells y at x =
-    AtRow «record» n1 n2 (y .0) at x × (w ≡ width n2) × ((i : ℕ) → i < maxPosition + 1 → getD top i 0 ≡ peakAt (listed «record») i) × (length top ≡ maxPosition + 1) × RowsDone up down «record» cells₀ cells n1 n2 at x
+    AtLine (listed «record») (n1 + 1) (width n2) (y .0) at x × (w ≡ width n2) × ((i : ℕ) → i < maxPosition + 1 → getD top i 0 ≡ peakAt (listed «record») i) × (length top ≡ maxPosition + 1) × RowsDone up down «record» cells₀ cells n1 n2 at x
 
 abbrev μ-loop : tie.MeasureT-loop
 μ-loop cells₀ «record» n1 n2 up down top w y₀ at₀ x₀ cells y at x = x

@@ -1,7 +1,5 @@
 -- The loop of `show` goes over the numbers.
-use mathlib.Core.Path.{_≡_}
 use Prim.Native.Nat.{_-_, _≤_}
-use lib.ListN.{length}
 use borrow.Author.Needs.{needs}
 use Rattle.try_removes.proofs.show.Statement.{statement}
 use Rattle.try_removes.proofs.show.Tie as tie
