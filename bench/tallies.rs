@@ -67,10 +67,9 @@ fn chances(i: usize) -> (u32, u32) {
     (999_000 - 997 * i as u32, 600_000 + 701 * i as u32)
 }
 
-fn row(name: &str, times: [Vec<f64>; 3]) -> f64 {
+fn row(name: &str, times: [Vec<f64>; 3]) {
     let [l, c, p] = times.map(median);
     println!("{:<20} {:>7.0} ns {:>7.0} ns {:>7.0} ns {:>9.3} {:>9.3}", name, l, c, p, l / c, l / p);
-    l
 }
 
 fn timed(call: Add, records: &[Vec<u8>], tally: &mut Tally) -> f64 {
@@ -81,7 +80,7 @@ fn timed(call: Add, records: &[Vec<u8>], tally: &mut Tally) -> f64 {
     start.elapsed().as_nanos() as f64 / CALLS as f64
 }
 
-/// As many adds as removes, so that both are made on tallies of the same rounds; the records are added twice first.
+/// As many removes as adds, in turn, so that both are made on tallies of the same rounds; the records are added twice first.
 fn moves(k: usize, rng: &mut Rng) -> Tally {
     let records: Vec<_> = (0..CALLS).map(|_| record(k, rng)).collect();
     let (mut added, mut removed) = ([vec![], vec![], vec![]], [vec![], vec![], vec![]]);
@@ -101,9 +100,10 @@ fn moves(k: usize, rng: &mut Rng) -> Tally {
         }
         same(&tallies);
     }
-    let add = row(&format!("add, k = {}", k), added);
-    let remove = row(&format!("remove, k = {}", k), removed);
-    println!("{:<20} {:.3}", "  remove / add", remove / add);
+    let ratios = removed[0].iter().zip(&added[0]).map(|(r, a)| r / a).collect();
+    row(&format!("add, k = {}", k), added);
+    row(&format!("remove, k = {}", k), removed);
+    println!("{:<20} {:.3}", "  remove / add", median(ratios));
     tallies[0]
 }
 
