@@ -189,6 +189,16 @@ pub record Remaining (n1 n2 : ℕ) (ms : List Move) (left : List (List ℕ)) (t 
       → (by-removal : ℕ → ℕ → ℕ) → ((l1 l2 : ℕ) → l1 ≤ n1 → l2 ≤ n2 → Count (HoldsWith n1 n2 l1 l2) qs (by-removal l1 l2))
       → (p1 p2 v k r : ℕ) → Rating t p1 p2 v k r → (k ≡ length qs) × Near n1 n2 p1 p2 by-removal v k r
 
+-- a cell to be lowered is 0; the outcome, where there is one, is not sound
+abbrev pub ZeroCell : List ℕ → List ℕ → Type 0
+ZeroCell r t =
+    let n1 = tallySize1 t in
+    let n2 = tallySize2 t in
+    (l1 : ℕ) × (l2 : ℕ) × (l1 ≤ n1) × (l2 ≤ n2) × T (recordHolds r (n1 - l1) (n2 - l2)) × (cell t l1 l2 ≡ 0)
+
+abbrev pub UnsoundOutcome : List ℕ → List ℕ → Type 0
+UnsoundOutcome r t = (x : List ℕ) × LoweredTally r t x × (Sound x → ⊥)
+
 pub record Request2 : Type 0 where
   -- "For every list of adds and takes after a fresh tally, in which every add succeeds and each take follows an add of the same front not yet taken"
   pub remaining : (n1 n2 : ℕ) (ms : List Move) (left : List (List ℕ)) (t : List ℕ) (m : Moved n1 n2 ms left t) → Remaining n1 n2 ms left t m
@@ -199,10 +209,9 @@ pub record Request2 : Type 0 where
   pub refused-stays : (s u : List ℕ) → Through s u → s ≡ u
   -- "Take makes add's tests without 24 .. 31, after 23"; "and returns 0 on success" is Demand1's `remove`
   pub tests : (r t : List ℕ) → removeTests r t ≡ exceptNumber 24 (addTests r t) ++ (31, not (removable r t)) ∷ []
-  -- "if M or a cell to be lowered is 0, or the outcome isn't sound": there is no sound tally that becomes this one where its M, and its cells where the
-  -- front holds, are raised by 1
+  -- "if M or a cell to be lowered is 0, or the outcome isn't sound"
   pub number-31 : (c : call.RemoveCall) → let r = call.removeRecord c in let t = call.removeLent c in
-      (call.removeResult c ≡ refused 31) ↔ (None (exceptNumber 24 (addTests r t)) × ((x : List ℕ) → LoweredTally r t x → Sound x → ⊥))
+      (call.removeResult c ≡ refused 31) ↔ (None (exceptNumber 24 (addTests r t)) × ((rounds t ≡ 0) ⊎ (ZeroCell r t ⊎ UnsoundOutcome r t)))
 
 -- the sample ring's front added, added, taken, added
 abbrev pub ringMoves : List Move

@@ -1,7 +1,7 @@
 -- Tests at every number below n.
 use mathlib.Core.Path.{_≡_, refl, ap, _∙_}
-use mathlib.Core.Logic.{⊎-elim}
-use mathlib.Core.Bool.{Bool, true, _&&_}
+use mathlib.Core.Logic.{_⊎_, inl, inr, ⊎-elim}
+use mathlib.Core.Bool.{Bool, true, false, _&&_}
 use Prim.Native.Nat.{ℕ, zero, suc, _+_, _<_}
 use native.Mathlib.Numerals.{add-one}
 use native.Mathlib.Omega.{arith}
@@ -21,6 +21,15 @@ module _ (f : ℕ → Bool) where
   every-at (suc n) e i h =
       let k = and-both (every n f) (f n) e in
       ⊎-elim (λ q. ap f q ∙ k .1) (λ q. every-at n (k .0) i (omega arith)) (equal i n)
+
+  -- at all of them, or not at one
+  pub every-or : (n : ℕ) → (every n f ≡ true) ⊎ ((i : ℕ) × (i < n) × (f i ≡ false))
+  every-or zero = inl refl
+  every-or (suc n) = ⊎-elim (λ e. here-or (f n) refl e) (λ (i, h, e). inr (i, omega arith, e)) (every-or n)
+    where
+      here-or : (b : Bool) → f n ≡ b → every n f ≡ true → (every n f && f n ≡ true) ⊎ ((i : ℕ) × (i < suc n) × (f i ≡ false))
+      here-or true q e = inl (rw (e, q))
+      here-or false q e = inr (n, omega arith, q)
 
   pub every-all : (n : ℕ) → ((i : ℕ) → i < n → f i ≡ true) → every n f ≡ true
   every-all zero h = refl
