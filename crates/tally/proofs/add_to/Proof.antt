@@ -23,7 +23,7 @@ returns c =
     call-last r t 24 (eqb (rounds t) maxRounds) (added r t) (s .pre) (eq-eqb (rounds t) maxRounds (c .if1 .taken))
 
 change-requires : tie.Need-change-requires
-change-requires c κs = let s = c .before .before .before .before .before in can-change 1 0 (s .args .«record» .now) (s .args .tally .now) (s .pre) (omega arith) (omega arith) (λ l1 l2 h k y. omega arith)
+change-requires c κs = let s = c .before .before .before .before .before in can-change _ _ (s .args .«record» .now) (s .args .tally .now) (s .pre) (omega arith) (omega arith) (λ l1 l2 h k y. omega arith)
 
 same-length : tie.Need-same-length
 same-length c = search needs

@@ -4,6 +4,9 @@ use borrow.Author.Needs.{needs}
 use Rattle.tally.proofs.change_rounds.Statement.{statement}
 use Rattle.tally.proofs.change_rounds.Tie as tie
 
+returns : tie.Need-returns
+returns c = refl
+
 slice-read-m : tie.Need-slice-read-m
 slice-read-m c = search needs
 
@@ -18,9 +21,6 @@ slice-write-tally c = search needs
 
 same-length : tie.Need-same-length
 same-length c = search needs
-
-returns : tie.Need-returns
-returns c = refl
 
 pub change-rounds-spec : {M : Type 1} → statement M
 change-rounds-spec =

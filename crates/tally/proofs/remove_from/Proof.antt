@@ -37,7 +37,7 @@ change-requires c κs =
     let r = s .args .«record» .now in
     let t = s .args .tally .now in
     let low = removable-means r t .0 (can (c .before)) .0 in
-    can-change 0 1 r t (s .pre) (omega arith) (omega (arith, low .0)) (λ l1 l2 h k y. omega (arith, low .1 l1 l2 h k, flag-true (recordHolds r (tallySize1 t - l1) (tallySize2 t - l2)) y))
+    can-change _ _ r t (s .pre) (omega arith) (omega (arith, low .0)) (λ l1 l2 h k y. omega (arith, low .1 l1 l2 h k, flag-true (recordHolds r (tallySize1 t - l1) (tallySize2 t - l2)) y))
 
 same-length-2 : tie.Need-same-length-2
 same-length-2 c = search needs
