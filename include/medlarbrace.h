@@ -122,7 +122,7 @@ uint32_t medlarbrace_tally_remove(const uint8_t *record, size_t record_len, uint
 
 /* ---- chances, in millionths: that one node of the class works */
 
-/* The house table's chance for an age in years, 0 to 30, through `chance`.
+/* The house's chance for an age of y years, 0 to 30, through `chance`: 1,000,000 - 1,000 x y x y.
  * Refusals: 14. */
 uint32_t medlarbrace_ageing(uint64_t age, uint32_t *chance);
 

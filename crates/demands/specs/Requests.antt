@@ -1,11 +1,11 @@
 -- THE REQUESTS OF DOCUMENT 02, closed: one record each, in 02's order, each field under the sentence that it states; in front of a record the words that it
--- needs beside the page's, behind it an instance. What a request changes of the three demands stands in Demands.antt. Proofs: proofs/ (request1, request2;
--- instances failing-ends, taken-back).
+-- needs beside the page's, behind it an instance. What a request changes of the three demands stands in Demands.antt. Proofs: proofs/ (request1, request2, request3;
+-- instances failing-ends, taken-back, edge-ages).
 use mathlib.Core.Path.{_≡_}
 use mathlib.Core.Logic.{_↔_, _⊎_}
 use mathlib.Core.Bool.{Bool, not, _||_, cond}
 use mathlib.Core.List.{List, [], _∷_, _++_}
-use Prim.Native.Nat.{ℕ, zero, suc, _+_, _-_, _*_, _≤_}
+use Prim.Native.Nat.{ℕ, zero, suc, _+_, _-_, _*_, _≤_, _<_}
 use lib.Dec.{T, eqb, ltb}
 use lib.ListN.{length, getD, take}
 use Rattle.laws.specs.Members.{_∈_, keep}
@@ -33,6 +33,7 @@ use Rattle.plan.specs.Calls.{Through, Searched, Built}
 use Rattle.survival.specs.Calls.{Tallied, Move, adding, removing, Moved, RemovesSucceed, AllSearched, Rating}
 use Rattle.survival.specs.Counts.{Count, HoldsWith}
 use Rattle.samples.specs.Table.{ringArcs, ringFile, ring}
+use Rattle.runs.specs.Run.{Ends}
 use Rattle.kinds.specs.Kinds as call
 use Rattle.demands.specs.Terms.{First, None, Answers, Fills, classOf, RoundRecord, LoweredTally, Wrote}
 
@@ -238,3 +239,23 @@ pub record TakenBack : Type 0 where
   -- the outcome is not sound: a cell falls as l1 grows; a cell is above M
   pub falls : Refuses31 firstAlone (1 ∷ 1 ∷ 2 ∷ 0 ∷ 1 ∷ 0 ∷ 1 ∷ [])
   pub above-m : Refuses31 nowhere (1 ∷ 1 ∷ 2 ∷ 0 ∷ 0 ∷ 0 ∷ 2 ∷ [])
+
+-- ======== S-3 AGEING BY FORMULA
+-- The call's answer on every age is Demand1's `ageing`, which stays: its line is the code's.
+pub record Request3 : Type 0 where
+  -- "let the call reckon 1,000,000 − 1,000 × y²" .. "Each age to 30 keeps its chance": told by a sum, so that the difference has not stopped at 0
+  pub reckons : (c : call.AgeingCall) → let y = call.ageingAge c in y ≤ 30
+      → (p : ℕ) × (call.ageingResult c ≡ success (p ∷ [])) × (p + 1000 * (y * y) ≡ 1000000)
+  -- "and every greater age, to the largest that can be passed, its 14"
+  pub beyond : (c : call.AgeingCall) → 30 < call.ageingAge c → call.ageingResult c ≡ refused 14
+
+-- the call's own code, run on an age, ends with this answer
+abbrev pub RunAnswers : ℕ → Outcome → Type 0
+RunAnswers y o = ∥ ((e : Ends [] (call.ageingRun y)) × (call.ageingResult (e .made) ≡ o)) ∥₁
+
+pub record EdgeAges : Type 0 where
+  -- the least age and the greatest with a chance, the next, and the largest of 64 bits
+  pub none : RunAnswers 0 (success (1000000 ∷ []))
+  pub last : RunAnswers 30 (success (100000 ∷ []))
+  pub next : RunAnswers 31 (refused 14)
+  pub largest : RunAnswers 18446744073709551615 (refused 14)

@@ -115,7 +115,7 @@ fn tally_of(n1: usize, n2: usize, cells: &[u8], fronts: &[u8], words: &mut [u32]
 }
 
 // ---- reliability
-// The house table's chance for an age, 0 for none.
+// The house's chance for an age, 0 for none.
 fn aged(age: u64) -> u64
     ensures { λ r. ⌜ r ≤ 1000000 ⌝ }
 {
@@ -143,7 +143,7 @@ pub fn wrong_ages() -> u64
     n
 }
 
-// 0, 1,000,000, a chance of the ageing table, or any.
+// 0, 1,000,000, the house's chance for an age, or any.
 fn chance(seed: u64, j: u64) -> u64
     requires { ⌜ j ≤ 100 ⌝ }
     ensures { λ r. ⌜ r ≤ 1000000 ⌝ }

@@ -1,5 +1,5 @@
-// New, add, weights, ageing and reliability on generated tallies, good and damaged, against a plain
-// reading of document 01, counted.
+// New, add, weights and reliability on generated tallies, good and damaged, against a plain reading
+// of document 01, counted; and ageing, age by age.
 
 use answer::Aged;
 use answer::Done;
@@ -255,7 +255,7 @@ fn try_rate(seed: u64, words: &[u32], counts: &mut [u64]) {
     judge(counts, 56, due, rated(r, words, p1, p2, due));
 }
 
-// ---- weights and ageing
+// ---- weights
 fn weights_number(n: u64, p: u64, room: u64) -> u64
     requires { ⌜ n ≤ 70 ⌝ }
 {
@@ -307,29 +307,28 @@ fn try_weights(seed: u64, counts: &mut [u64]) {
     );
 }
 
-fn square(y: u64) -> u64
-    requires { ⌜ y ≤ 30 ⌝ }
-    ensures { λ r. ⌜ r ≤ 900 ⌝ }
-{
-    let mut s: u64 = 0;
-    let mut i: u64 = 0;
-    while i < y {
-        s += y;
-        i += 1;
-    }
-    if s > 900 { 0 } else { s }
-}
-
-fn aged(a: Aged, age: u64) -> bool {
-    match a {
-        Aged::Refused(r) => (answer::number(r) == 14) & (age > 30),
-        Aged::Chance(p) => (age <= 30) & (p as u64 == 1000000 - 1000 * square(age % 31)),
+// ---- ageing
+// The answer is shown: `stdout` has each chance as a figure, so that no formula is tried by itself.
+fn show_age(age: u64) {
+    io::write_all(STDOUT_FILENO, b"  ");
+    io::print_decimal(STDOUT_FILENO, age);
+    match weights::ageing(age) {
+        Aged::Chance(p) => line(b" ", p as u64),
+        Aged::Refused(r) => line(b" refused ", answer::number(r) as u64),
     }
 }
 
-fn try_age(age: u64, counts: &mut [u64]) {
-    let right = aged(weights::ageing(age), age);
-    judge(counts, 112, if age > 30 { 14 } else { 0 }, right);
+// Ages 0 to 39; then those that are 0 and 30 in 32 bits, one whose square is 0 in 64, and the largest.
+fn show_ages() {
+    let mut y: u64 = 0;
+    while y < 40 {
+        show_age(y);
+        y += 1;
+    }
+    show_age(4294967296);
+    show_age(4294967326);
+    show_age(9223372036854775808);
+    show_age(18446744073709551615);
 }
 
 // ---- a tally: new, adds, reliability, and the same after a word is damaged
@@ -454,19 +453,9 @@ fn tallies(counts: &mut [u64]) {
     }
 }
 
-fn ages(counts: &mut [u64]) {
-    let mut y: u64 = 0;
-    while y < 40 {
-        try_age(y, counts);
-        y += 1;
-    }
-    try_age(18446744073709551615, counts);
-}
-
 fn main() {
-    let mut counts = [0u64; 140];
+    let mut counts = [0u64; 112];
     tallies(&mut counts);
-    ages(&mut counts);
     io::write_all(STDOUT_FILENO, b"new\n");
     show(&counts, 0);
     io::write_all(STDOUT_FILENO, b"add\n");
@@ -476,5 +465,5 @@ fn main() {
     io::write_all(STDOUT_FILENO, b"weights\n");
     show(&counts, 84);
     io::write_all(STDOUT_FILENO, b"ageing\n");
-    show(&counts, 112);
+    show_ages();
 }

@@ -1,4 +1,4 @@
-// Weights of the counts of working nodes, and the house ageing table.
+// Weights of the counts of working nodes, and house ageing.
 use answer::Aged;
 use answer::Done;
 use answer::Refusal;
@@ -73,47 +73,13 @@ pub fn weights(n: u32, p: u32, out: &mut [u32]) -> Done
 }
 
 // ---- ageing
-// The chance that a node works, in millionths, by its age in years.
-const CHANCES: [u32; 31] = [
-    1000000,
-    999000,
-    996000,
-    991000,
-    984000,
-    975000,
-    964000,
-    951000,
-    936000,
-    919000,
-    900000,
-    879000,
-    856000,
-    831000,
-    804000,
-    775000,
-    744000,
-    711000,
-    676000,
-    639000,
-    600000,
-    559000,
-    516000,
-    471000,
-    424000,
-    375000,
-    324000,
-    271000,
-    216000,
-    159000,
-    100000,
-];
-
-// The house table's chance for an age: number 14.
+// The chance that a node of that age in years works, in millionths: number 14. The test comes first, so that no product meets a large age.
 pub fn ageing(age: u64) -> Aged
     ensures { λ r. ⌜ aged r ≡ ageingAnswer age ⌝ }
 {
     if age > 30 {
         return Aged::Refused(Refusal::Probability);
     }
-    Aged::Chance(CHANCES[age as usize])
+    let y = age as u32;
+    Aged::Chance(1000000 - 1000 * (y * y))
 }

@@ -1,22 +1,27 @@
--- `weights::ageing` reads the table, whose rule is tested at every age.
+-- `weights::ageing` reckons the line of its definition; behind the test its products and its difference fit.
+use native.Mathlib.Nat.{mul-le-mul}
 use native.Mathlib.Omega.{arith}
 use borrow.Author.Tests.{lt-ltb, le-ltb}
-use borrow.Author.Needs.{needs}
-use Rattle.weights.proofs.Ages.{rule}
 use Rattle.weights.proofs.ageing.Statement.{statement}
 use Rattle.weights.proofs.ageing.Tie as tie
 
+returns-2 : tie.Need-returns-2
+returns-2 c = rw (le-ltb 30 (c .before .args .age) (omega arith))
+
 returns : tie.Need-returns
-returns c = let a = c .before .args in rw (lt-ltb 30 (a .age) (c .if1 .taken))
+returns c = rw (lt-ltb 30 (c .before .args .age) (omega arith))
+
+cast-y : tie.Need-cast-y
+cast-y c = omega arith
+
+mul-t5 : tie.Need-mul-t5
+mul-t5 c = omega (arith, mul-le-mul (c .if1 .left) (c .if1 .left))
 
 mul-t6 : tie.Need-mul-t6
-mul-t6 c = search needs
+mul-t6 c = omega (arith, mul-le-mul (c .if1 .left) (c .if1 .left))
 
-array-read-t9 : tie.Need-array-read-t9
-array-read-t9 c = search needs
-
-returns-2 : tie.Need-returns-2
-returns-2 c = let a = c .before .args in rw (le-ltb 30 (a .age) (c .if1 .left), rule (a .age) (omega arith))
+sub-t7 : tie.Need-sub-t7
+sub-t7 c = omega (arith, mul-le-mul (c .if1 .left) (c .if1 .left))
 
 pub ageing-spec : {M : Type 1} → statement M
-ageing-spec = tie.close (tie.spec returns mul-t6 array-read-t9 returns-2)
+ageing-spec = tie.close (tie.spec returns cast-y mul-t5 mul-t6 sub-t7 returns-2)
