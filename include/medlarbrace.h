@@ -17,7 +17,7 @@
  * No call keeps a pointer, allocates, or has any state: calls from several threads may run at once.
  * Bytes of stack a call takes, compiled for x86-64 (bench/stack): search 3,776, reliability 488,
  * write 384, series 360, parallel 344, tally_remove 248, tally_add and round 216, open 200, weights 56,
- * tally_new 32, ageing 16; memset and memcpy come to that.
+ * tally_new 32, ageing 8; memset and memcpy come to that.
  */
 #ifndef MEDLARBRACE_H
 #define MEDLARBRACE_H

@@ -1,6 +1,6 @@
 -- THE REQUESTS OF DOCUMENT 02, closed: one record each, in 02's order, each field under the sentence that it states; in front of a record the words that it
--- needs beside the page's, behind it an instance. What a request changes of the three demands stands in Demands.antt. Proofs: proofs/ (request1, request2, request3;
--- instances failing-ends, taken-back, edge-ages).
+-- needs beside the page's, behind it an instance. What a request changes of the three demands stands in Demands.antt. Proofs: proofs/ (request1, request2,
+-- request3; instances failing-ends, taken-back, edge-ages).
 use mathlib.Core.Path.{_≡_}
 use mathlib.Core.Logic.{_↔_, _⊎_}
 use mathlib.Core.Bool.{Bool, not, _||_, cond}
