@@ -3,6 +3,7 @@
 mod maxcap;
 mod networks;
 mod plain;
+mod removal;
 mod searches;
 mod study;
 mod sweep;
@@ -14,7 +15,7 @@ fn median(mut v: Vec<f64>) -> f64 {
 }
 
 fn main() {
-    searches::table();
+    searches::tables();
     println!();
     tallies::table();
 }

@@ -1,103 +1,101 @@
 //! 002's BO-MaxCapPath (Algorithms 4 to 6): labels from the source, taken from a heap in
 //! lexicographic order, a list of permanent labels at each node.
 
-use crate::study;
+use crate::study::{self, Number, Study};
 
-/// Arcs grouped by one end: `at[v]..at[v + 1]` of `ends` are v's neighbours.
-struct Grouped {
-    at: [u16; 161],
-    ends: [u8; 1024],
+/// Arcs grouped by one end: `begin[v]..end[v]` of `ends` are v's neighbours.
+struct Grouped<T, const N: usize, const A: usize> {
+    begin: [u16; N],
+    end: [u16; N],
+    ends: [T; A],
 }
 
-fn group(arcs: &[u8], by: usize) -> Grouped {
-    let mut g = Grouped { at: [0; 161], ends: [0; 1024] };
-    for arc in arcs.chunks_exact(2) {
-        g.at[arc[by] as usize + 1] += 1;
+fn group<T: Number, const N: usize, const A: usize>(st: &Study, by: usize) -> Grouped<T, N, A> {
+    let mut begin = [0; N];
+    study::arcs(st, |arc: [T; 2]| begin[arc[by].into()] += 1);
+    let mut all = 0;
+    for at in &mut begin {
+        (*at, all) = (all, all + *at);
     }
-    for v in 0..160 {
-        g.at[v + 1] += g.at[v];
-    }
-    let mut next = g.at;
-    for arc in arcs.chunks_exact(2) {
-        let v = arc[by] as usize;
-        g.ends[next[v] as usize] = arc[1 - by];
-        next[v] += 1;
-    }
+    let mut g = Grouped { begin, end: begin, ends: [T::NONE; A] };
+    study::arcs(st, |arc: [T; 2]| {
+        let next = &mut g.end[arc[by].into()];
+        g.ends[*next as usize] = arc[1 - by];
+        *next += 1;
+    });
     g
 }
 
-impl Grouped {
-    fn of(&self, v: usize) -> &[u8] {
-        &self.ends[self.at[v] as usize..self.at[v + 1] as usize]
+impl<T: Number, const N: usize, const A: usize> Grouped<T, N, A> {
+    fn of(&self, v: usize) -> &[T] {
+        &self.ends[self.begin[v] as usize..self.end[v] as usize]
     }
 }
 
 /// A heap of nodes by key, with increase-key; a key is (d1, d2) as one number.
-struct Heap {
-    key: [u16; 160],
-    place: [u8; 160],
-    heap: [u8; 160],
+struct Heap<T, const N: usize> {
+    key: [u16; N],
+    place: [T; N],
+    heap: [T; N],
     len: usize,
 }
 
-const OUT: u8 = 255;
-
-impl Heap {
-    fn new() -> Heap {
-        Heap { key: [0; 160], place: [OUT; 160], heap: [0; 160], len: 0 }
+impl<T: Number, const N: usize> Heap<T, N> {
+    fn new() -> Heap<T, N> {
+        Heap { key: [0; N], place: [T::NONE; N], heap: [T::NONE; N], len: 0 }
     }
 
     fn raise(&mut self, v: usize, key: u16) {
         self.key[v] = key;
-        let mut i = self.place[v] as usize;
-        if self.place[v] == OUT {
+        let mut i = self.place[v].into();
+        if self.place[v].is_none() {
             i = self.len;
             self.len += 1;
         }
         while i > 0 {
             let p = (i - 1) / 2;
             let w = self.heap[p];
-            if self.key[w as usize] >= key {
+            if self.key[w.into()] >= key {
                 break;
             }
             self.heap[i] = w;
-            self.place[w as usize] = i as u8;
+            self.place[w.into()] = T::new(i);
             i = p;
         }
-        self.heap[i] = v as u8;
-        self.place[v] = i as u8;
+        self.heap[i] = T::new(v);
+        self.place[v] = T::new(i);
     }
 
     fn pop(&mut self) -> Option<(usize, u16)> {
         if self.len == 0 {
             return None;
         }
-        let top = self.heap[0] as usize;
+        let top = self.heap[0].into();
         let key = self.key[top];
-        self.place[top] = OUT;
+        self.place[top] = T::NONE;
         self.len -= 1;
         if self.len > 0 {
             let v = self.heap[self.len];
-            let k = self.key[v as usize];
+            let k = self.key[v.into()];
             let mut i = 0;
             loop {
                 let mut c = 2 * i + 1;
                 if c >= self.len {
                     break;
                 }
-                if c + 1 < self.len && self.key[self.heap[c + 1] as usize] > self.key[self.heap[c] as usize] {
+                if c + 1 < self.len && self.key[self.heap[c + 1].into()] > self.key[self.heap[c].into()] {
                     c += 1;
                 }
                 let w = self.heap[c];
-                if self.key[w as usize] <= k {
+                if self.key[w.into()] <= k {
                     break;
                 }
                 self.heap[i] = w;
-                self.place[w as usize] = i as u8;
+                self.place[w.into()] = T::new(i);
                 i = c;
             }
             self.heap[i] = v;
-            self.place[v as usize] = i as u8;
+            self.place[v.into()] = T::new(i);
         }
         Some((top, key))
     }
@@ -106,12 +104,19 @@ impl Heap {
 pub fn search(file: &[u8], r: usize, out: &mut [u8]) -> Result<usize, u32> {
     let st = study::open(file)?;
     let (o1, o2) = study::round(&st, r)?;
-    let (u1, u2) = study::capacities(st.n1, st.n2, o1, o2);
-    let before = group(st.arcs, 1);
-    let after = group(st.arcs, 0);
-    let mut heap = Heap::new();
-    let mut lists = [[(0u8, 0u8); 65]; 160];
-    let mut many = [0u8; 160];
+    if st.plain {
+        return run::<u8, { study::NODES }, { study::ARCS }>(&st, o1, o2, out);
+    }
+    run::<u16, { study::SPLIT_NODES }, { study::SPLIT_ARCS }>(&st, o1, o2, out)
+}
+
+fn run<T: Number, const N: usize, const A: usize>(st: &Study, o1: &[u8], o2: &[u8], out: &mut [u8]) -> Result<usize, u32> {
+    let (u1, u2, _) = study::capacities::<T, N>(st, o1, o2);
+    let before = group::<T, N, A>(st, 1);
+    let after = group::<T, N, A>(st, 0);
+    let mut heap = Heap::<T, N>::new();
+    let mut lists = [[(0u8, 0u8); 65]; N];
+    let mut many = [0u8; N];
     heap.raise(st.source, (u1[st.source] as u16) << 8 | u2[st.source] as u16);
     while let Some((i, key)) = heap.pop() {
         let (d1, d2) = ((key >> 8) as u8, key as u8);
@@ -120,7 +125,8 @@ pub fn search(file: &[u8], r: usize, out: &mut [u8]) -> Result<usize, u32> {
         // NewCandidateLabel
         let mut best = 0u16;
         for &j in before.of(i) {
-            for &(l1, l2) in &lists[j as usize][..many[j as usize] as usize] {
+            let j = j.into();
+            for &(l1, l2) in &lists[j][..many[j] as usize] {
                 let f1 = l1.min(u1[i]);
                 let f2 = l2.min(u2[i]);
                 let k = (f1 as u16) << 8 | f2 as u16;
@@ -135,7 +141,7 @@ pub fn search(file: &[u8], r: usize, out: &mut [u8]) -> Result<usize, u32> {
         }
         // RelaxationProcess
         for &j in after.of(i) {
-            let j = j as usize;
+            let j = j.into();
             let f1 = d1.min(u1[j]);
             let f2 = d2.min(u2[j]);
             let k = (f1 as u16) << 8 | f2 as u16;

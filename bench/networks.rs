@@ -26,37 +26,70 @@ pub struct Network {
     pub edges: Vec<(usize, usize)>,
 }
 
-/// Each edge as two arcs; source 0; n1 nodes of class 1 and n2 of class 2.
+/// Each edge as two arcs of kind 0; source 0; n1 nodes of class 1 and n2 of class 2.
 pub fn file(net: &Network, n1: usize, n2: usize, rounds: usize, rng: &mut Rng) -> Vec<u8> {
-    let n = net.n;
-    let mut inner: Vec<u8> = (1..n as u8).filter(|&v| v as usize != net.target).collect();
+    let mut inner: Vec<usize> = (1..net.n).filter(|&v| v != net.target).collect();
     rng.shuffle(&mut inner);
-    let mut classes = vec![0u8; n];
-    let mut c1 = inner[..n1].to_vec();
-    let mut c2 = inner[n1..n1 + n2].to_vec();
-    c1.iter().for_each(|&v| classes[v as usize] = 1);
-    c2.iter().for_each(|&v| classes[v as usize] = 2);
-    let mut arcs = Vec::new();
+    let mut classes = vec![0; net.n];
+    inner[..n1].iter().for_each(|&v| classes[v] = 1);
+    inner[n1..n1 + n2].iter().for_each(|&v| classes[v] = 2);
     let mut edges = net.edges.clone();
     rng.shuffle(&mut edges);
-    for (u, v) in edges {
-        arcs.extend([u as u8, v as u8, v as u8, u as u8]);
+    let arcs = edges.iter().flat_map(|&(u, v)| [(u, v, 0), (v, u, 0)]).collect::<Vec<_>>();
+    write(&classes, &arcs, net.target, &inner[..n1], &inner[n1..n1 + n2], rounds, rng)
+}
+
+/// Nodes that never fail; n1 and n2 edges as both-way arcs of classes 1 and 2, the others by turns as
+/// a both-way arc and as two of kind 0.
+pub fn piped(net: &Network, n1: usize, n2: usize, rounds: usize, rng: &mut Rng) -> Vec<u8> {
+    let mut edges = net.edges.clone();
+    rng.shuffle(&mut edges);
+    let mut arcs = Vec::new();
+    for (i, (u, v)) in edges.into_iter().enumerate() {
+        match i {
+            _ if i < n1 => arcs.push((u, v, 4)),
+            _ if i < n1 + n2 => arcs.push((u, v, 5)),
+            _ if i % 2 == 0 => arcs.push((u, v, 3)),
+            _ => arcs.extend([(u, v, 0), (v, u, 0)]),
+        }
     }
-    let mut orders: Vec<u8> = Vec::new();
+    rng.shuffle(&mut arcs);
+    let of = |kind| (0..arcs.len()).filter(|&i| arcs[i].2 == kind).map(|i| net.n + i).collect::<Vec<_>>();
+    write(&vec![0; net.n], &arcs, net.target, &of(4), &of(5), rounds, rng)
+}
+
+/// Document 01's ring of 6 nodes, an arc more or less or as it is; classes and arcs in any order.
+pub fn sample(rng: &mut Rng) -> Vec<u8> {
+    let mut inner = [2, 3, 4, 5];
+    rng.shuffle(&mut inner);
+    let mut classes = [0, 0, 1, 1, 1, 1];
+    inner[2..].iter().for_each(|&v| classes[v] = 2);
+    let mut arcs = vec![(0, 2, 0), (2, 4, 0), (4, 1, 0), (0, 3, 0), (3, 1, 0), (0, 5, 0), (5, 1, 0)];
+    rng.shuffle(&mut arcs);
+    match rng.below(3) {
+        0 => drop(arcs.pop()),
+        1 => arcs.push((rng.below(3), 3 + rng.below(3), 0)),
+        _ => {}
+    }
+    write(&classes, &arcs, 1, &inner[..2], &inner[2..], 1, rng)
+}
+
+/// A study file with orders at random. c1 and c2 are the members of the classes by element, the arc at
+/// place i being element N + i; the file names them by place in the class.
+fn write(classes: &[u8], arcs: &[(usize, usize, u8)], target: usize, c1: &[usize], c2: &[usize], rounds: usize, rng: &mut Rng) -> Vec<u8> {
+    let (n, mut c1, mut c2) = (classes.len(), c1.to_vec(), c2.to_vec());
+    let mut bytes = classes.to_vec();
+    arcs.iter().for_each(|&(u, v, kind)| bytes.extend([u as u8, v as u8, kind]));
     for _ in 0..rounds {
         rng.shuffle(&mut c1);
         rng.shuffle(&mut c2);
-        orders.extend(&c1);
-        orders.extend(&c2);
+        for class in [&c1, &c2] {
+            bytes.extend(class.iter().map(|e| class.iter().filter(|x| *x < e).count() as u8));
+        }
     }
-    let a = arcs.len() / 2;
-    let dm = orders.len();
-    let da = dm + arcs.len();
-    let dn = da + n;
-    let mut bytes = classes;
-    bytes.extend(arcs);
-    bytes.extend(orders);
-    for w in [n, a, rounds, 0, net.target, dn, da, dm] {
+    let dm = rounds * (c1.len() + c2.len());
+    let da = dm + 3 * arcs.len();
+    for w in [n, arcs.len(), rounds, 0, target, da + n, da, dm] {
         bytes.extend((w as u32).to_le_bytes());
     }
     bytes

@@ -1,4 +1,5 @@
-/* The sample ring: written, searched, joined, tallied, a front taken back, and its reliability by age.
+/* The sample ring: written, searched, with a pipe that fails, converted from its old file, joined, tallied, a front taken
+ * back, and its reliability by age.
  *
  *     examples/run-c [FILE]
  *
@@ -6,14 +7,22 @@
 #include <inttypes.h>
 #include <stdio.h>
 #include <stdlib.h>
+#include <string.h>
 
 #include "medlarbrace.h"
 
 /* nodes 0 to 5: source and target never fail, two stations of each class */
 static const uint8_t nodes[] = {0, 0, 1, 1, 2, 2};
-static const uint8_t arcs[] = {0, 2, 2, 4, 4, 1, 0, 3, 3, 1, 0, 5, 5, 1};
-/* one round: 3 fails before 2, and 5 before 4 */
-static const uint8_t rounds[] = {3, 2, 5, 4};
+/* from, to, kind: kind 0 leads one way and never fails */
+static const uint8_t arcs[] = {0, 2, 0, 2, 4, 0, 4, 1, 0, 0, 3, 0, 3, 1, 0, 0, 5, 0, 5, 1, 0};
+/* one round, by places in the class: 3, the second of class 1, fails before 2, and 5 before 4 */
+static const uint8_t rounds[] = {1, 0, 1, 0};
+/* the same with the last pipe, 5 to 1, of class 2: its third member, after nodes 4 and 5, and the first to fail */
+static const uint8_t piped_arcs[] = {0, 2, 0, 2, 4, 0, 4, 1, 0, 0, 3, 0, 3, 1, 0, 0, 5, 0, 5, 1, 2};
+static const uint8_t piped_rounds[] = {1, 0, 2, 1, 0};
+/* the ring's file up to version 2.1: two bytes an arc, orders by node numbers */
+static const uint8_t old_file[] = {0, 0, 1, 1, 2, 2, 0, 2, 2, 4, 4, 1, 0, 3, 3, 1, 0, 5, 5, 1, 3, 2, 5, 4, 6, 0, 0, 0, 7, 0, 0, 0,
+                                   1, 0, 0, 0, 0, 0, 0, 0, 1, 0, 0, 0, 24, 0, 0, 0, 18, 0, 0, 0, 4, 0, 0, 0};
 /* the front of another block of the same class sizes: one pair, (2, 3) */
 static const uint8_t other[] = {2, 2, 1, 2, 3};
 
@@ -67,6 +76,23 @@ static void print_file(const uint8_t *file, size_t length)
     printf("round 0: %" PRIu64 " bytes from byte %" PRIu64 "\n", count, start);
 }
 
+static void print_piped(void)
+{
+    uint8_t file[sizeof nodes + sizeof piped_arcs + sizeof piped_rounds + 32], front[MEDLARBRACE_RECORD_BYTES];
+    uint64_t length, written;
+    must(medlarbrace_write(nodes, sizeof nodes, piped_arcs, sizeof piped_arcs, piped_rounds, sizeof piped_rounds, 0, 1, 1, file, sizeof file, &length), "write");
+    must(medlarbrace_search(file, length, 0, front, sizeof front, &written), "search");
+    print_pairs("front with a pipe that fails", front);
+}
+
+static void print_converted(const uint8_t *file, size_t length)
+{
+    uint8_t converted[sizeof nodes + sizeof arcs + sizeof rounds + 32];
+    uint64_t written;
+    must(medlarbrace_convert(old_file, sizeof old_file, converted, sizeof converted, &written), "convert");
+    printf("converted: %" PRIu64 " bytes, %s\n", written, written == length && memcmp(converted, file, length) == 0 ? "the same" : "different");
+}
+
 /* every station of both classes of the same age */
 static void print_ages(const uint32_t *tally)
 {
@@ -94,6 +120,8 @@ int main(int argc, char **argv)
 
     must(medlarbrace_search(file, length, 0, front, sizeof front, &written), "search");
     print_pairs("front", front);
+    print_piped();
+    print_converted(file, length);
     uint64_t searched = written;
     must(medlarbrace_series(front, searched, other, sizeof other, joined, sizeof joined, &written), "series");
     print_pairs("row", joined);

@@ -1,4 +1,5 @@
-"""The sample ring: written, searched, joined, tallied, a front taken back, and its reliability by age.
+"""The sample ring: written, searched, with a pipe that fails, converted from its old file, joined, tallied, a front taken
+back, and its reliability by age.
 
     examples/run-python [FILE]
 
@@ -21,6 +22,7 @@ CALLS = {
     "round": SLICE + [LONG, TO_LONG, TO_LONG],
     "search": SLICE + [LONG] + SLICE + [TO_LONG],
     "write": SLICE * 3 + [LONG] * 3 + SLICE + [TO_LONG],
+    "convert": SLICE * 2 + [TO_LONG],
     "series": SLICE * 3 + [TO_LONG],
     "parallel": SLICE * 3 + [TO_LONG],
     "tally_new": [WORD, WORD] + WORD_SLICE,
@@ -33,6 +35,9 @@ CALLS = {
 for name, types in CALLS.items():
     function = getattr(LIBRARY, "medlarbrace_" + name)
     function.argtypes, function.restype = types, WORD
+
+OLD_FILE = bytes([0, 0, 1, 1, 2, 2, 0, 2, 2, 4, 4, 1, 0, 3, 3, 1, 0, 5, 5, 1, 3, 2, 5, 4])
+OLD_FILE += b"".join(word.to_bytes(4, "little") for word in (6, 7, 1, 0, 1, 24, 18, 4))
 
 HEADER_WORDS, RECORD_BYTES, TALLY_WORDS = 7, 133, 4228
 
@@ -56,6 +61,14 @@ def write(nodes, arcs, rounds, source, target, round_count):
     room = len(nodes) + len(arcs) + len(rounds) + 32
     file, written = (BYTE * room)(), LONG()
     call("write", *lent(nodes), *lent(arcs), *lent(rounds), source, target, round_count, file, room, written)
+    return bytes(file[: written.value])
+
+
+def convert(old):
+    """The file in the new form: at most a byte more for each arc."""
+    room = len(old) + 1024
+    file, written = (BYTE * room)(), LONG()
+    call("convert", *lent(old), file, room, written)
     return bytes(file[: written.value])
 
 
@@ -131,9 +144,10 @@ def print_rate(name, rate):
 def main():
     # nodes 0 to 5: source and target never fail, two stations of each class
     nodes = [0, 0, 1, 1, 2, 2]
-    arcs = [0, 2, 2, 4, 4, 1, 0, 3, 3, 1, 0, 5, 5, 1]
-    # one round: 3 fails before 2, and 5 before 4
-    file = write(nodes, arcs, [3, 2, 5, 4], 0, 1, 1)
+    # from, to, kind: kind 0 leads one way and never fails
+    arcs = [0, 2, 0, 2, 4, 0, 4, 1, 0, 0, 3, 0, 3, 1, 0, 0, 5, 0, 5, 1, 0]
+    # one round, by places in the class: 3, the second of class 1, fails before 2, and 5 before 4
+    file = write(nodes, arcs, [1, 0, 1, 0], 0, 1, 1)
     if len(sys.argv) > 1:
         pathlib.Path(sys.argv[1]).write_bytes(file)
     n, a, m, s, t, n1, n2 = header(file)
@@ -146,6 +160,12 @@ def main():
     # the front of another block of the same class sizes: one pair, (2, 3)
     other = [2, 2, 1, 2, 3]
     print_pairs("front", front)
+    # the last pipe, 5 to 1, of class 2: its third member, after nodes 4 and 5, and the first to fail
+    piped = write(nodes, arcs[:-1] + [2], [1, 0, 2, 1, 0], 0, 1, 1)
+    print_pairs("front with a pipe that fails", record("search", *lent(piped), 0))
+    # the ring's file up to version 2.1: two bytes an arc, orders by node numbers
+    new = convert(OLD_FILE)
+    print(f"converted: {len(new)} bytes,", "the same" if new == file else "different")
     print_pairs("row", record("series", *lent(front), *lent(other)))
     print_pairs("side", record("parallel", *lent(front), *lent(other)))
 

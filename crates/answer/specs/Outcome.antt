@@ -72,6 +72,7 @@ numberOf refusal.TallySizes = 23
 numberOf refusal.TallyFull = 24
 numberOf refusal.NoRounds = 25
 numberOf refusal.NotRemovable = 31
+numberOf refusal.Kind = 32
 
 -- "search, row, side and writer the length written"
 abbrev pub written : Written → Outcome

@@ -24,7 +24,7 @@ pub enum Refusal {
     RoundsLength,
     // 10 no such round
     RoundNumber,
-    // 11 an order that is not each node of its class once
+    // 11 an order that is not each member of its class once
     Order,
     // 12 not a front record
     NotRecord,
@@ -46,6 +46,8 @@ pub enum Refusal {
     NoRounds,
     // 31 a front that cannot be taken out of a tally
     NotRemovable,
+    // 32 an arc's kind above 5
+    Kind,
 }
 
 // The answer of search, series, parallel and the writer: the length written.
@@ -121,6 +123,7 @@ pub fn number(refusal: Refusal) -> u32
         Refusal::TallyFull => 24,
         Refusal::NoRounds => 25,
         Refusal::NotRemovable => 31,
+        Refusal::Kind => 32,
     }
 }
 

@@ -2,11 +2,12 @@
 use mathlib.Core.Path.{_≡_, refl, sym, ap, subst, _∙_}
 use mathlib.Core.Logic.{_↔_, inl, inr, ⊎-elim}
 use mathlib.Core.Bool.{Bool, true, false, cond}
-use mathlib.Core.List.{List, [], _∷_, _++_}
+use mathlib.Core.List.{List, [], _∷_, _++_, map, Memᴰ·append-left}
 use Prim.Native.Nat.{ℕ, zero, suc, _≤_}
 use native.Mathlib.Omega.{arith}
 use lib.Dec.{T, ltb}
 use lib.ListN.{length, getD}
+use Rattle.limits.specs.Limits.{arcSize}
 use Rattle.laws.specs.First.{first-without}
 use Rattle.laws.specs.Members.{_∈_, here}
 use Rattle.answer.specs.Outcome.{Outcome, success, refused, outcome, fillAnswer}
@@ -15,8 +16,8 @@ use Rattle.answer.proofs.Fills.{fill-never}
 use Rattle.front.specs.declared.Pair.{Pair}
 use Rattle.record.specs.Record.{listed, recordHolds, longest}
 use Rattle.slices.specs.Bytes.{wordAt}
-use Rattle.parts.specs.Study.{Arc, Study}
-use Rattle.parts.specs.Tests.{badClasses, badSizes, badArcs}
+use Rattle.parts.specs.Study.{Arc, Study, studyArcs, arcElement}
+use Rattle.parts.specs.Tests.{partTests}
 use Rattle.sections.specs.File.{trailer, nodesOf, arcsOf, studyOf}
 use Rattle.study.specs.Calls.{badRounds, badNumber, badOrders, trailerTests, openedRounds, openedSize1, openedSize2, openTests, openValues, openAnswer, checkTests, roundTests}
 use Rattle.writer.specs.Writer.{Given, meant, studyBytes, badRoundBytes, badGivenOrders, countTests, givenTests}
@@ -28,6 +29,7 @@ use Rattle.network.specs.Walk.{visits}
 use Rattle.network.specs.Round.{Route, RoundHolds}
 use Rattle.network.proofs.Routes.{walk-arrives}
 use Rattle.search.specs.Search.{searchBytes}
+use Rattle.convert.specs.Convert.{convertTests, convertBytes}
 use Rattle.lines.specs.Text.{sizesLine, frontLine, refusedLine}
 use Rattle.lines.specs.Report.{byAnswer, roundAnswer, roundLines, freshFor, maxInput, openLines, reportOpens, reportLines}
 use Rattle.plan.specs.Plan.{Plan, searched, series, parallel, PlanHolds}
@@ -46,7 +48,7 @@ use Rattle.demands.proofs.Three.{demand3}
 
 -- ---- where a round holds, both ends work
 holds-only : (st : Study) (r a b : ℕ) → RoundHolds st r a b → EndsWork st r a b
-holds-only st r a b h = (h .2 (st .source) here, h .2 (st .target) (walk-arrives (st .arcs) (st .source) (st .target) (h .0) (h .1)))
+holds-only st r a b h = (h .2 (st .source) here, h .2 (st .target) (walk-arrives (studyArcs st) (st .source) (st .target) (h .0) (h .1)))
 
 plan-ends : (p : Plan) (a b : ℕ) → PlanHolds p a b → PlanEndsWork p a b
 plan-ends (searched f r) a b h = holds-only (studyOf f) r a b h
@@ -55,13 +57,14 @@ plan-ends (parallel p q) a b h = ⊎-elim (λ k. inl (plan-ends p a b k)) (λ k.
 
 -- ---- the pair of a route counts both
 visited : (st : Study) (ks : List Arc) → Route st ks → (st .source ∈ visits (st .source) ks) × (st .target ∈ visits (st .source) ks)
-visited st ks w = (here, walk-arrives (st .arcs) (st .source) (st .target) ks (w .0))
+visited st ks w = (here, walk-arrives (studyArcs st) (st .source) (st .target) ks (w .0))
 
 counted : (f : List ℕ) (r : ℕ) (x : List ℕ) → Searched f r x → (p : Pair) → p ∈ listed x → let st = studyOf f in AtMostNode st r p (st .source) × AtMostNode st r p (st .target)
 counted f r x s p m =
     let st = studyOf f in
     let o = demand2 .exact f r x s p .0 m .0 in
-    let at : (v : ℕ) → v ∈ visits (st .source) (o .0) → AtMostNode st r p v = λ v i. (o .2 .0 .under v i, o .2 .1 .under v i) in
+    let at : (v : ℕ) → v ∈ visits (st .source) (o .0) → AtMostNode st r p v =
+    λ v i. let j = Memᴰ·append-left (map (arcElement st) (o .0)) i in (o .2 .0 .under v j, o .2 .1 .under v j) in
     let v = visited st (o .0) (o .1) in
     (at (st .source) (v .0), at (st .target) (v .1))
 
@@ -91,7 +94,7 @@ module _ (f : List ℕ) (h : EndsNeverFail (studyOf f)) where
   file-kept : (us : List (ℕ × Bool)) (v : List ℕ) → outcome (openTests f ++ us) v ≡ outcome (formerOpenTests f ++ us) v
   file-kept us v =
       let t = trailer f in
-      not-seven (trailerTests (length f) t ++ (5, badClasses (nodesOf f)) ∷ (6, badSizes (nodesOf f)) ∷ []) ((8, badArcs (t .nodes) (arcsOf f)) ∷ (9, badRounds f) ∷ us)
+      not-seven (trailerTests arcSize (length f) t ++ partTests (t .nodes) (nodesOf f) (arcsOf f)) ((9, badRounds f) ∷ us)
       (nodesOf f) (t .source) (t .target) v (h .0) (h .1)
 
   check-same : (r : ℕ) (v : List ℕ) → outcome (checkTests f r) v ≡ outcome (formerCheckTests f r) v
@@ -129,8 +132,8 @@ module _ (f : List ℕ) (h : EndsNeverFail (studyOf f)) where
 
 given-kept : (g : Given) → EndsNeverFail (meant g) → (bytes : List ℕ) (room : ℕ) → fillAnswer (givenTests g) bytes room ≡ fillAnswer (formerGivenTests g) bytes room
 given-kept g h bytes room =
-    not-seven (countTests g ++ (5, badClasses (g .nodes)) ∷ (6, badSizes (g .nodes)) ∷ [])
-    ((8, badArcs (length (g .nodes)) (g .arcs)) ∷ (9, badRoundBytes g) ∷ (11, badGivenOrders g) ∷ (15, ltb room (length bytes)) ∷ []) (g .nodes) (g .source) (g .target) (length bytes ∷ []) (h .0)
+    not-seven (countTests g ++ partTests (length (g .nodes)) (g .nodes) (g .arcs))
+    ((9, badRoundBytes g) ∷ (11, badGivenOrders g) ∷ (15, ltb room (length bytes)) ∷ []) (g .nodes) (g .source) (g .target) (length bytes ∷ []) (h .0)
     (h .1)
 
 -- THE THEOREM
@@ -156,6 +159,7 @@ request1 =
       weighing-7 = λ c e. outcome-never 7 (weightsTests (call.weightsNodes c) (call.weightsChance c) (length (call.weightsLent c))) (0 ∷ []) tt (sym (c .kept .0) ∙ e);
       reliability-7 = λ c e. outcome-never 7 (rateTests (call.rateTally c) (call.rateChance1 c) (call.rateChance2 c)) _ tt (sym (c .kept) ∙ e);
       writer-7 = λ c e. fill-never 7 (givenTests (call.writeGiven c)) (studyBytes (call.writeGiven c)) (length (call.writeLent c)) tt (sym (c .kept .0) ∙ e);
+      converter-7 = λ c e. fill-never 7 (convertTests (call.convertFile c)) (convertBytes (call.convertFile c)) (length (call.convertLent c)) tt (sym (c .kept .0) ∙ e);
       report-7 = report-7;
       opening-kept = λ c h. let f = call.openFile c in answers (formerOpenTests f) (openValues f) (call.openResult c) (c .kept ∙ file-kept f h [] (openValues f));
       check-kept = λ c h.
@@ -207,7 +211,7 @@ pub failing-ends : FailingEnds
 unfolding wordAt
 failing-ends =
     record {
-      wrote = wrote-by failingRing file 58 refl;
+      wrote = wrote-by failingRing file 65 refl;
       formerly = first-is (formerOpenTests file) [] 7 .0 refl;
       found = found;
       holds = told 0 2 (omega arith) (omega arith) .0 tt;

@@ -7,7 +7,7 @@ use lib.ListN.{length}
 use Rattle.answer.proofs.Outcomes.{refused-apart}
 use Rattle.slices.specs.Bytes.{partAt}
 use Rattle.parts.specs.Study.{roundSize}
-use Rattle.sections.specs.File.{trailerAt, trailer, nodesOf, studyOf}
+use Rattle.sections.specs.File.{trailerAt, trailer, elementsOf, studyOf}
 use Rattle.study.specs.Calls.{openTests, openValues, checkTests, roundTests}
 use Rattle.study.proofs.Lookups.{round-part, round-found, lookup-refused}
 use Rattle.compose.specs.Compose.{seriesBytes, parallelBytes, recordTests}
@@ -16,6 +16,7 @@ use Rattle.tally.specs.Calls.{newTests, addTests, removeTests}
 use Rattle.weights.specs.Calls.{weightsTests}
 use Rattle.reliability.specs.Calls.{rateTests}
 use Rattle.writer.specs.Writer.{studyBytes, givenTests}
+use Rattle.convert.specs.Convert.{convertTests, convertBytes}
 use Rattle.kinds.specs.Kinds as call
 use Rattle.demands.specs.Terms.{First, None, RoundRecord, RowRecord, SideRecord}
 use Rattle.demands.specs.Demands.{Demand1}
@@ -25,10 +26,10 @@ use Rattle.demands.proofs.Leaves as leave
 use Rattle.demands.proofs.Made as make
 use Rattle.kinds.proofs.Ends as end
 use Rattle.demands.proofs.Keeps as keep
-use Rattle.demands.proofs.Outside.{open-same, check-same, lookup-same, search-same, search-out-same, report-same}
+use Rattle.demands.proofs.Outside.{open-same, check-same, lookup-same, search-same, search-out-same, convert-same, convert-out-same, report-same}
 
 -- ---- lookup
-lookup : (c : call.LookupCall) → let f = call.lookupFile c in let n = roundSize (nodesOf f) in
+lookup : (c : call.LookupCall) → let f = call.lookupFile c in let n = roundSize (elementsOf f) in
     None (checkTests f (call.lookupRound c)) → call.lookupResult c ≡ partAt (trailerAt f - trailer f .dm + call.lookupRound c * n) n f
 lookup c none =
     let f = call.lookupFile c in
@@ -74,10 +75,14 @@ demand1 =
       writer = λ c.
           let g = call.writeGiven c in
           fills (givenTests g) (studyBytes g) (λ x. x ≡ studyBytes g) (length (call.writeLent c)) (λ n. refl) (λ n x h. h) (call.writeResult c) (c .kept .0);
+      converter = λ c.
+          let f = call.convertFile c in
+          fills (convertTests f) (convertBytes f) (λ x. x ≡ convertBytes f) (length (call.convertLent c)) (λ n. refl) (λ n x h. h) (call.convertResult c) (c .kept .0);
       opening-ignores = λ c d s. c .kept ∙ open-same s ∙ sym (d .kept);
       check-ignores = λ c d s e. c .kept ∙ check-same s e ∙ sym (d .kept);
       lookup-ignores = λ c d s e. c .kept .0 ∙ lookup-same s e ∙ sym (d .kept .0);
       search-ignores = λ c d s e l. (c .kept .0 ∙ search-same s e (ap length l) ∙ sym (d .kept .0), c .kept .1 ∙ search-out-same s e l ∙ sym (d .kept .1));
+      converter-ignores = λ c d s l. (c .kept .0 ∙ convert-same s (ap length l) ∙ sym (d .kept .0), c .kept .1 ∙ convert-out-same s l ∙ sym (d .kept .1));
       report-ignores = λ f g s. report-same s;
       apart = refused-apart;
       search-leaves = leave.search-leaves;
@@ -88,6 +93,7 @@ demand1 =
       remove-leaves = leave.remove-leaves;
       weighing-leaves = leave.weighing-leaves;
       writer-leaves = leave.writer-leaves;
+      converter-leaves = leave.converter-leaves;
       opening-reads = λ c. refl;
       check-reads = λ c. refl;
       lookup-reads = λ c. refl;
@@ -98,6 +104,7 @@ demand1 =
       remove-reads = λ c. refl;
       reliability-reads = λ c. refl;
       writer-reads = λ c. refl;
+      converter-reads = λ c. refl;
       opening-made = make.opening-made;
       check-made = make.check-made;
       lookup-made = make.lookup-made;
@@ -111,6 +118,7 @@ demand1 =
       weighing-made = make.weights-made;
       reliability-made = make.reliability-made;
       writer-made = make.writer-made;
+      converter-made = make.converter-made;
       opening-ends = end.opening-ends;
       check-ends = end.check-ends;
       lookup-ends = end.lookup-ends;
@@ -124,6 +132,7 @@ demand1 =
       weighing-ends = end.weighing-ends;
       reliability-ends = end.reliability-ends;
       writer-ends = end.writer-ends;
+      converter-ends = end.converter-ends;
       opening-keeps = keep.opening-keeps;
       check-keeps = keep.check-keeps;
       lookup-keeps = keep.lookup-keeps;
@@ -136,5 +145,6 @@ demand1 =
       weighing-keeps = keep.weighing-keeps;
       reliability-keeps = keep.reliability-keeps;
       writer-keeps = keep.writer-keeps;
+      converter-keeps = keep.converter-keeps;
       lookup-lies = keep.lookup-lies;
     }

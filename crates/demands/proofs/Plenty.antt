@@ -24,15 +24,16 @@ use Rattle.tally.specs.Steps.{Fits}
 use Rattle.tally.proofs.Runs.{add-succeeds}
 use Rattle.reliability.specs.Calls.{rateAnswer}
 use Rattle.writer.specs.Writer.{Given, studyBytes, givenTests, writeAnswer, writeOut}
+use Rattle.convert.specs.Convert.{convertTests, convertBytes, convertAnswer, convertOut}
 use Rattle.plan.specs.Plan.{Plan, searched, series, parallel, PlanSized}
 use Rattle.plan.specs.Calls.{Through, none, Handed, Searched, RowJoined, SideJoined, Built}
 use Rattle.plan.proofs.Plans.{sound, one-size}
 use Rattle.survival.specs.Calls.{Begun, Added, Tallied, Removing, AllSearched, Rating}
 use Rattle.survival.proofs.Tallies.{run, as-many}
 use Rattle.kinds.specs.Kinds as call
-use Rattle.demands.specs.Terms.{None, PlanPasses, Wrote}
+use Rattle.demands.specs.Terms.{None, PlanPasses, Wrote, Converted}
 use Rattle.demands.proofs.Numbers.{none-is, none-append, fits}
-use Rattle.demands.proofs.Made.{search-made, row-made, side-made, fresh-made, add-made, remove-made, reliability-made, writer-made}
+use Rattle.demands.proofs.Made.{search-made, row-made, side-made, fresh-made, add-made, remove-made, reliability-made, writer-made, converter-made}
 
 -- what a successful call filled, handed on at once
 at-once : (ts : List (ℕ × Bool)) (bytes s left : List ℕ) (n : ℕ) (a : Outcome) → a ≡ fillAnswer ts bytes (length s) → left ≡ fillOut ts bytes s → fillAnswer ts bytes (length s) ≡ success (n ∷ []) → Handed a left bytes
@@ -85,6 +86,14 @@ wrote-by g s n o =
     let l : call.writeLeft c ≡ writeOut g s = c .kept .1 ∙ ap₂ writeOut (m .1) (m .2) in
     record { made = c; given-is = m .1; handed = at-once (givenTests g) (studyBytes g) s (call.writeLeft c) n (call.writeResult c) a l o }
 
+pub converted-by : (f s : List ℕ) (n : ℕ) → convertAnswer f (length s) ≡ success (n ∷ []) → Converted f (convertBytes f)
+converted-by f s n o =
+    let m = converter-made f s in
+    let c = m .0 in
+    let a : call.convertResult c ≡ convertAnswer f (length s) = rw (m .1, m .2) at (c .kept .0) in
+    let l : call.convertLeft c ≡ convertOut f s = rw (m .1, m .2) at (c .kept .1) in
+    record { made = c; old-is = m .1; handed = at-once (convertTests f) (convertBytes f) s (call.convertLeft c) n (call.convertResult c) a l o }
+
 pub begun-by : (n1 n2 : ℕ) (s : List ℕ) → newAnswer n1 n2 (length s) ≡ success (0 ∷ []) → Begun n1 n2 (newOut n1 n2 s)
 begun-by n1 n2 s o =
     let m = fresh-made n1 n2 s in
@@ -124,6 +133,9 @@ round-made f r n = let b = searchBytes f r in searched-by f r b (length b) (just
 
 pub study-made : (g : Given) → None (givenTests g) → Wrote g (studyBytes g)
 study-made g n = let b = studyBytes g in wrote-by g b (length b) (just-fits (givenTests g) b n)
+
+pub old-made : (f : List ℕ) → None (convertTests f) → Converted f (convertBytes f)
+old-made f n = let b = convertBytes f in converted-by f b (length b) (just-fits (convertTests f) b n)
 
 -- ---- plans
 -- records of plans of the same sizes pass tests 12 and 13

@@ -44,8 +44,8 @@ outside = record { long = refl; trailers = refl; nodes = refl; arcs = refl; roun
 no-largest : pairOf 3 3 ∈ listed ring → ⊥
 no-largest m = any-in (same (pairOf 3 3)) m tt
 
-wrote : Wrote (ringWith (3 ∷ 2 ∷ 5 ∷ 4 ∷ [])) ringFile
-wrote = subst (Wrote (ringWith (3 ∷ 2 ∷ 5 ∷ 4 ∷ []))) (table .r1-bytes) (wrote-by (ringWith (3 ∷ 2 ∷ 5 ∷ 4 ∷ [])) ringFile 56 (table .r1-answer))
+wrote : Wrote (ringWith (1 ∷ 0 ∷ 1 ∷ 0 ∷ [])) ringFile
+wrote = subst (Wrote (ringWith (1 ∷ 0 ∷ 1 ∷ 0 ∷ []))) (table .r1-bytes) (wrote-by (ringWith (1 ∷ 0 ∷ 1 ∷ 0 ∷ [])) ringFile 63 (table .r1-answer))
 
 built : Built ringPlan ring
 built = (ring, ring, found, (ring, ring, found, found, ring-side), ring-row)

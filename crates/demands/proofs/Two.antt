@@ -6,18 +6,16 @@ use mathlib.Core.List.{List, [], _∷_}
 use Prim.Native.Nat.{ℕ, _+_, _*_, _≤_, _<_}
 use lib.Dec.{T}
 use lib.ListN.{length, take}
-use Rattle.limits.specs.Limits.{arcCount}
 use Rattle.laws.specs.Members.{_∈_}
 use Rattle.answer.specs.Outcome.{success, refused}
 use Rattle.record.specs.Record.{isRecord, recordHolds}
-use Rattle.orders.specs.Order.{count}
 use Rattle.slices.specs.Bytes.{partAt}
 use Rattle.parts.specs.Study.{Study, roundSize}
 use Rattle.sections.specs.File.{studyOf}
 use Rattle.study.specs.Calls.{badOrders, openAnswer, openValues, checkTests, checkAnswer, lookupPart, roundTests}
 use Rattle.study.proofs.Lookups.{number-bad}
-use Rattle.writer.specs.Writer.{Given, meant, studyBytes, givenTests, writeAnswer, writeOut}
-use Rattle.writer.specs.ReadBack.{ReadsBack}
+use Rattle.writer.specs.Writer.{Given, givenElements, meant, studyBytes, givenTests, writeAnswer, writeOut}
+use Rattle.writer.specs.ReadBack.{givenValues, ReadsBack}
 use Rattle.writer.proofs.Reading.{write-reads-back}
 use Rattle.answer.proofs.Fills.{fill-wrote}
 use Rattle.answer.proofs.Outcomes.{refused-as}
@@ -80,7 +78,7 @@ module _ (g : Given) (f : List ℕ) (w : Wrote g f) where
   back = subst (ReadsBack g) (sym file-is) (write-reads-back g (call.writeLent (w .made)) (w .handed .size ∷ []) written-answer)
 
   opens : (c : call.OpenCall) → call.openFile c ≡ f → call.openResult c
-      ≡ success (length (g .nodes) ∷ arcCount (g .arcs) ∷ g .total ∷ g .source ∷ g .target ∷ count 1 (g .nodes) ∷ count 2 (g .nodes) ∷ [])
+      ≡ success (givenValues g)
   opens c e = c .kept ∙ ap openAnswer e ∙ back .opens
 
   checks : (c : call.CheckCall) → call.checkFile c ≡ f
@@ -91,10 +89,10 @@ module _ (g : Given) (f : List ℕ) (w : Wrote g f) where
       (λ h. k ∙ back .check r h, λ h. k ∙ refused-as (checkTests f r) (openValues f) (0 ∷ []) 10 (number-bad f _ (back .opens) r h))
 
   looks-up : (c : call.LookupCall) → call.lookupFile c ≡ f → call.lookupRound c < g .total
-      → call.lookupResult c ≡ partAt (call.lookupRound c * roundSize (g .nodes)) (roundSize (g .nodes)) (g .rounds)
+      → call.lookupResult c ≡ partAt (call.lookupRound c * roundSize (givenElements g)) (roundSize (givenElements g)) (g .rounds)
   looks-up c e h = let r = call.lookupRound c in c .kept .0 ∙ ap (λ i. lookupPart i r) e ∙ back .round r h
 
-  round-passes : (r : ℕ) → r < g .total → None (roundTests f r)
+  pub round-passes : (r : ℕ) → r < g .total → None (roundTests f r)
   round-passes r h = none-append (checkTests f r) ((11, badOrders f r) ∷ []) .1 (none-is (checkTests f r) (0 ∷ []) (0 ∷ []) .0 (back .check r h) .0, (subst T (back .orders r h), tt))
 
   searches : (c : call.SearchCall) → call.searchFile c ≡ f → call.searchRound c < g .total → (n : ℕ) → call.searchResult c ≡ refused n → n ≡ 15

@@ -2,7 +2,7 @@
 -- Proofs: proofs/ (demand1, demand2, demand3; instances on the sample ring: Ring.antt). Read first: answer/specs/Outcome.antt (answers and their numbers),
 -- runs/specs (what a call is, and that it ends), kinds/specs/Kinds.antt (the calls, their arguments by name), Terms.antt, plan/specs (plans, and calls one
 -- after another with refused ones in between), survival/specs (tallies). Then what a line cites: the tests of a call (specs/ of study, parts, search,
--- compose, tally, soundness, weights, reliability, writer), files (sections), rounds (network), E and D (chance), the report (lines).
+-- compose, tally, soundness, weights, reliability, writer, convert), files (sections), rounds (network), E and D (chance), the report (lines).
 use mathlib.Core.Path.{_≡_}
 use mathlib.Core.Logic.{_↔_}
 use mathlib.Core.List.{List, [], _∷_}
@@ -17,13 +17,13 @@ use Rattle.front.specs.declared.Pair.{Pair}
 use Rattle.front.specs.Front.{AtMost}
 use Rattle.record.specs.Record.{recordSize1, recordSize2, listed, isRecord, recordHolds}
 use Rattle.compose.specs.Compose.{recordTests}
-use Rattle.orders.specs.Order.{count}
 use Rattle.slices.specs.Bytes.{partAt, Inside}
 use Rattle.parts.specs.Study.{Arc, roundSize}
-use Rattle.sections.specs.File.{trailerAt, trailer, nodesOf, studyOf}
+use Rattle.sections.specs.File.{trailerAt, trailer, elementsOf, studyOf}
 use Rattle.study.specs.Calls.{openTests, openValues, checkTests, roundTests}
-use Rattle.writer.specs.Writer.{Given, meant, studyBytes, givenTests}
+use Rattle.writer.specs.Writer.{Given, givenElements, meant, studyBytes, givenTests}
 use Rattle.network.specs.Round.{studySize1, studySize2, Route, RoundHolds}
+use Rattle.convert.specs.Convert.{convertTests, convertBytes}
 use Rattle.chance.specs.Chance.{weights, sumE, scaleD, Near}
 use Rattle.weights.specs.Calls.{weightsTests}
 use Rattle.soundness.specs.Tally.{tallySize1, tallySize2, rounds, cell, Sound}
@@ -37,23 +37,23 @@ use Rattle.survival.specs.Counts.{Count, HoldsWith}
 use Rattle.kinds.specs.Kinds as call
 use Rattle.runs.specs.Arguments.{Block}
 use Rattle.runs.specs.Run.{at, Ends, AlwaysEnds, Keeps}
-use Rattle.demands.specs.Terms.{First, None, Refused, Answers, Fills, Leaves, SameSections, Undominated, PairOf, OfRoute}
+use Rattle.demands.specs.Terms.{First, None, Refused, Answers, Fills, Leaves, SameSections, SameOldSections, Undominated, PairOf, OfRoute}
 use Rattle.demands.specs.Terms.{RoundRecord, RowRecord, SideRecord, FreshTally, RaisedTally, LoweredTally, PlanPasses, Wrote}
 
 pub record Demand1 : Type 0 where
   -- "If a study, an order, a front, a tally or a chance is bad, or lent space is too short, the call gives the one number that document 01 fixes":
   -- it is refused with n exactly where n is the first number of its list whose test applies, and succeeds, with 01's values, exactly where none does.
-  -- opening (1 to 6, 8, 9; 7 is not used since S-1): N, A, M, s, t, n1, n2
+  -- opening (1 2 3 4 5 8 32 6 9; 7 is not used since S-1): N, A, M, s, t, n1, n2
   pub opening : (c : call.OpenCall) → Answers (openTests (call.openFile c)) (openValues (call.openFile c)) (call.openResult c)
-  -- lookup (1 to 6, 8 to 10), the check: 0
+  -- lookup (opening's, 10), the check: 0
   pub check : (c : call.CheckCall) → Answers (checkTests (call.checkFile c) (call.checkRound c)) (0 ∷ []) (call.checkResult c)
   -- lookup, the part: where the check is good, the n1 + n2 bytes of the file from T − dM + r × (n1 + n2) on; an empty part where it refuses
-  pub lookup : (c : call.LookupCall) → let f = call.lookupFile c in let n = roundSize (nodesOf f) in
+  pub lookup : (c : call.LookupCall) → let f = call.lookupFile c in let n = roundSize (elementsOf f) in
       None (checkTests f (call.lookupRound c)) → call.lookupResult c ≡ partAt (trailerAt f - trailer f .dm + call.lookupRound c * n) n f
   pub lookup-bad : (c : call.LookupCall) (n : ℕ) → First (checkTests (call.lookupFile c) (call.lookupRound c)) n → call.lookupResult c ≡ []
   -- in both cases a part of the caller's file: in its block of memory, and within its bounds
   pub lookup-inside : (c : call.LookupCall) → Inside (call.lookupResultSlice c) (call.lookupFileSlice c)
-  -- search (1 to 6, 8 to 11, 15): the length of the round's front record
+  -- search (lookup's, 11, 15): the length of the round's front record
   pub search : (c : call.SearchCall) → let f = call.searchFile c in let r = call.searchRound c in
       Fills (roundTests f r) (RoundRecord (studyOf f) r) (length (call.searchLent c)) (call.searchResult c)
   -- row and side (12, 13, 15): the length of the record of the two records' row or side
@@ -75,9 +75,12 @@ pub record Demand1 : Type 0 where
   -- reliability (14, 21, 22, 25): S, M and R = floor(S / (M × 10^7))
   pub reliability : (c : call.RateCall) → let t = call.rateTally c in let s = tallyS t (call.rateChance1 c) (call.rateChance2 c) in
       Answers (rateTests t (call.rateChance1 c) (call.rateChance2 c)) (s ∷ rounds t ∷ (s / (rounds t * 10000000)) ∷ []) (call.rateResult c)
-  -- writer (2, 3, 5, 6, 8, 9, 11, 15): the length of the study file
+  -- writer (2 3 5 8 32 6 9 11 15): the length of the study file
   pub writer : (c : call.WriteCall) → let g = call.writeGiven c in
       Fills (givenTests g) (λ x. x ≡ studyBytes g) (length (call.writeLent c)) (call.writeResult c)
+  -- converter (S-4; the old 1 2 3 4 5 6 8 9, 11 over all rounds, 15): the length of the new study file
+  pub converter : (c : call.ConvertCall) → let f = call.convertFile c in
+      Fills (convertTests f) (λ x. x ≡ convertBytes f) (length (call.convertLent c)) (call.convertResult c)
   -- 01: "Bytes outside the sections are ignored."
   pub opening-ignores : (c d : call.OpenCall) → SameSections (call.openFile c) (call.openFile d) → call.openResult c ≡ call.openResult d
   pub check-ignores : (c d : call.CheckCall) → SameSections (call.checkFile c) (call.checkFile d) → call.checkRound c ≡ call.checkRound d
@@ -86,6 +89,8 @@ pub record Demand1 : Type 0 where
       → call.lookupResult c ≡ call.lookupResult d
   pub search-ignores : (c d : call.SearchCall) → SameSections (call.searchFile c) (call.searchFile d) → call.searchRound c ≡ call.searchRound d
       → call.searchLent c ≡ call.searchLent d → (call.searchResult c ≡ call.searchResult d) × (call.searchLeft c ≡ call.searchLeft d)
+  pub converter-ignores : (c d : call.ConvertCall) → SameOldSections (call.convertFile c) (call.convertFile d) → call.convertLent c ≡ call.convertLent d
+      → (call.convertResult c ≡ call.convertResult d) × (call.convertLeft c ≡ call.convertLeft d)
   -- and in the report: its lines, of which its text is made
   pub report-ignores : (f g : List ℕ) → SameSections f g → reportLines f ≡ reportLines g
   -- 01: "A refusal returns its number alone, as an answer told apart from every success"
@@ -104,6 +109,8 @@ pub record Demand1 : Type 0 where
   pub weighing-leaves : (c : call.WeightsCall) →
       Leaves (λ x. x ≡ weights (call.weightsChance c) (call.weightsNodes c)) (call.weightsResult c) (call.weightsLent c) (call.weightsLeft c)
   pub writer-leaves : (c : call.WriteCall) → Leaves (λ x. x ≡ studyBytes (call.writeGiven c)) (call.writeResult c) (call.writeLent c) (call.writeLeft c)
+  pub converter-leaves : (c : call.ConvertCall) →
+      Leaves (λ x. x ≡ convertBytes (call.convertFile c)) (call.convertResult c) (call.convertLent c) (call.convertLeft c)
   -- and what a call was lent to read is as it was, whatever it answers
   pub opening-reads : (c : call.OpenCall) → call.openFileAfter c ≡ call.openFile c
   pub check-reads : (c : call.CheckCall) → call.checkFileAfter c ≡ call.checkFile c
@@ -115,6 +122,7 @@ pub record Demand1 : Type 0 where
   pub remove-reads : (c : call.RemoveCall) → call.removeRecordAfter c ≡ call.removeRecord c
   pub reliability-reads : (c : call.RateCall) → call.rateTallyAfter c ≡ call.rateTally c
   pub writer-reads : (c : call.WriteCall) → call.writeGivenAfter c ≡ call.writeGiven c
+  pub converter-reads : (c : call.ConvertCall) → call.convertFileAfter c ≡ call.convertFile c
   -- "every call ends". On every input there is a call of each kind, so that nothing above speaks of nothing;
   pub opening-made : (f : List ℕ) → (c : call.OpenCall) × (call.openFile c ≡ f)
   pub check-made : (f : List ℕ) (r : ℕ) → (c : call.CheckCall) × (call.checkFile c ≡ f) × (call.checkRound c ≡ r)
@@ -130,6 +138,7 @@ pub record Demand1 : Type 0 where
   pub weighing-made : (n p : ℕ) (s : List ℕ) → (c : call.WeightsCall) × (call.weightsNodes c ≡ n) × (call.weightsChance c ≡ p) × (call.weightsLent c ≡ s)
   pub reliability-made : (t : List ℕ) (p1 p2 : ℕ) → (c : call.RateCall) × (call.rateTally c ≡ t) × (call.rateChance1 c ≡ p1) × (call.rateChance2 c ≡ p2)
   pub writer-made : (g : Given) (s : List ℕ) → (c : call.WriteCall) × (call.writeGiven c ≡ g) × (call.writeLent c ≡ s)
+  pub converter-made : (f s : List ℕ) → (c : call.ConvertCall) × (call.convertFile c ≡ f) × (call.convertLent c ≡ s)
   -- nothing is asked of its caller, and for all arguments that a machine can hold the call's own code, run from a memory that holds them, ends, and makes
   -- a call with these arguments; what that call left is then in memory, and all else as it was (runs/specs/Run.antt)
   pub opening-ends : (f : List ℕ) → AlwaysEnds (call.openRun f)
@@ -145,6 +154,7 @@ pub record Demand1 : Type 0 where
   pub weighing-ends : (n p : ℕ) (s : List ℕ) → AlwaysEnds (call.weightsRun n p s)
   pub reliability-ends : (t : List ℕ) (p1 p2 : ℕ) → AlwaysEnds (call.rateRun t p1 p2)
   pub writer-ends : (g : Given) (s : List ℕ) → AlwaysEnds (call.writeRun g s)
+  pub converter-ends : (f s : List ℕ) → AlwaysEnds (call.convertRun f s)
   -- so, on the machine: a run that is refused leaves every lent block of memory as it was, and one that is lent slices to read alone always does
   pub opening-keeps : (f : List ℕ) → Keeps (call.openRun f) (λ c. Unit)
   pub check-keeps : (f : List ℕ) (r : ℕ) → Keeps (call.checkRun f r) (λ c. Unit)
@@ -158,6 +168,7 @@ pub record Demand1 : Type 0 where
   pub weighing-keeps : (n p : ℕ) (s : List ℕ) → Keeps (call.weightsRun n p s) (λ c. Refused (call.weightsResult c))
   pub reliability-keeps : (t : List ℕ) (p1 p2 : ℕ) → Keeps (call.rateRun t p1 p2) (λ c. Unit)
   pub writer-keeps : (g : Given) (s : List ℕ) → Keeps (call.writeRun g s) (λ c. Refused (call.writeResult c))
+  pub converter-keeps : (f s : List ℕ) → Keeps (call.convertRun f s) (λ c. Refused (call.convertResult c))
   -- and the part that a run of lookup hands back lies in the block where the caller's file was put, within its bounds
   pub lookup-lies : (f : List ℕ) (r : ℕ) (others : List Block) (e : Ends others (call.lookupRun f r)) → let n = length (call.lookupResult (e .made)) in
       (o : ℕ) × (e .value ≡ sliceVal (at others, o) n) × (o + n ≤ length f)
@@ -201,12 +212,12 @@ pub record Demand2 : Type 0 where
   -- "A written study reads back as given." It spells the study that was meant; opening tells its numbers,
   pub spells : (g : Given) (f : List ℕ) → Wrote g f → studyOf f ≡ meant g
   pub opens : (g : Given) (f : List ℕ) → Wrote g f → (c : call.OpenCall) → call.openFile c ≡ f → call.openResult c
-      ≡ success (length (g .nodes) ∷ arcCount (g .arcs) ∷ g .total ∷ g .source ∷ g .target ∷ count 1 (g .nodes) ∷ count 2 (g .nodes) ∷ [])
+      ≡ success (length (g .nodes) ∷ arcCount (g .arcs) ∷ g .total ∷ g .source ∷ g .target ∷ studySize1 (meant g) ∷ studySize2 (meant g) ∷ [])
   -- lookup hands back each round, and refuses every other,
   pub checks : (g : Given) (f : List ℕ) → Wrote g f → (c : call.CheckCall) → call.checkFile c ≡ f
       → (call.checkRound c < g .total → call.checkResult c ≡ success (0 ∷ [])) × (g .total ≤ call.checkRound c → call.checkResult c ≡ refused 10)
   pub looks-up : (g : Given) (f : List ℕ) → Wrote g f → (c : call.LookupCall) → call.lookupFile c ≡ f → call.lookupRound c < g .total
-      → call.lookupResult c ≡ partAt (call.lookupRound c * roundSize (g .nodes)) (roundSize (g .nodes)) (g .rounds)
+      → call.lookupResult c ≡ partAt (call.lookupRound c * roundSize (givenElements g)) (roundSize (givenElements g)) (g .rounds)
   -- and the search of a round is never refused but for its slice, and finds the front of the study that was given
   pub searches : (g : Given) (f : List ℕ) → Wrote g f → (c : call.SearchCall) → call.searchFile c ≡ f → call.searchRound c < g .total
       → (n : ℕ) → call.searchResult c ≡ refused n → n ≡ 15

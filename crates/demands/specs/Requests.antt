@@ -1,28 +1,31 @@
 -- THE REQUESTS OF DOCUMENT 02, closed: one record each, in 02's order, each field under the sentence that it states; in front of a record the words that it
--- needs beside the page's, behind it an instance. What a request changes of the three demands stands in Demands.antt. Proofs: proofs/ (request1, request2,
--- request3; instances failing-ends, taken-back, edge-ages).
+-- needs beside the page's, behind it an instance. What a request changes of the three demands stands in Demands.antt. Proofs: proofs/ (request1 to
+-- request4; instances failing-ends, taken-back, edge-ages, failing-pipe).
 use mathlib.Core.Path.{_≡_}
 use mathlib.Core.Logic.{_↔_, _⊎_}
 use mathlib.Core.Bool.{Bool, not, _||_, cond}
-use mathlib.Core.List.{List, [], _∷_, _++_}
-use Prim.Native.Nat.{ℕ, zero, suc, _+_, _-_, _*_, _≤_, _<_}
+use mathlib.Core.List.{List, [], _∷_, _++_, map}
+use Prim.Native.Nat.{ℕ, zero, suc, _+_, _-_, _*_, _%_, _≤_, _<_}
 use lib.Dec.{T, eqb, ltb}
 use lib.ListN.{length, getD, take}
+use Rattle.limits.specs.Limits.{arcSize}
 use Rattle.laws.specs.Members.{_∈_, keep}
 use Rattle.laws.specs.Reorder.{With, Reordered}
 use Rattle.answer.specs.Outcome.{Outcome, success, refused, outcome, fillAnswer}
 use Rattle.front.specs.declared.Pair.{Pair}
 use Rattle.record.specs.Record.{listed, recordHolds, longest}
-use Rattle.orders.specs.Order.{order1, order2, position}
+use Rattle.orders.specs.Order.{count, members, membersFrom, placeInClass}
 use Rattle.slices.specs.Bytes.{partAt}
-use Rattle.parts.specs.Study.{Arc, Study, roundSize}
-use Rattle.parts.specs.Tests.{badClasses, badSizes, badArcs}
-use Rattle.sections.specs.File.{trailerAt, trailer, nodesOf, arcsOf, studyOf}
-use Rattle.study.specs.Calls.{badRounds, badNumber, badOrders, trailerTests, openedRounds, openedSize1, openedSize2, openValues}
+use Rattle.parts.specs.Study.{Entry, Arc, Study, entryClass, studyArcs, entriesFrom, studyElements, arcElement, roundSize}
+use Rattle.parts.specs.Tests.{badClasses, badArcs, badKinds, badSizes, partTests}
+use Rattle.sections.specs.File.{trailerAt, trailer, nodesOf, arcsOf, elementsOf, studyOf}
+use Rattle.study.specs.Calls.{badRounds, badNumber, badOrders, trailerTests, openTests, openedRounds, openedSize1, openedSize2, openValues}
 use Rattle.writer.specs.Writer.{Given, given, meant, studyBytes, badRoundBytes, badGivenOrders, countTests}
-use Rattle.network.specs.Walk.{visits}
-use Rattle.network.specs.Round.{roundAt, Route, works, RoundHolds}
+use Rattle.network.specs.Walk.{Walk, visits}
+use Rattle.network.specs.Round.{studySize1, studySize2, roundAt, Route, elementWorks, RoundHolds}
 use Rattle.search.specs.Search.{searchBytes}
+use Rattle.convert.specs.Old.{oldSearchBytes}
+use Rattle.convert.specs.Convert.{converted, convertTests, convertBytes}
 use Rattle.chance.specs.Chance.{Near}
 use Rattle.soundness.specs.Tally.{tallySize1, tallySize2, rounds, words, cell, Sound}
 use Rattle.tally.specs.Calls.{addTests, removable, removeTests}
@@ -32,24 +35,25 @@ use Rattle.plan.specs.Plan.{Plan, searched, series, parallel, PlanSized}
 use Rattle.plan.specs.Calls.{Through, Searched, Built}
 use Rattle.survival.specs.Calls.{Tallied, Move, adding, removing, Moved, RemovesSucceed, AllSearched, Rating}
 use Rattle.survival.specs.Counts.{Count, HoldsWith}
-use Rattle.samples.specs.Table.{ringArcs, ringFile, ring}
+use Rattle.samples.specs.Table.{ringArcs, ringFile, oldRingFile, ring}
 use Rattle.runs.specs.Run.{Ends}
 use Rattle.kinds.specs.Kinds as call
-use Rattle.demands.specs.Terms.{First, None, Answers, Fills, classOf, RoundRecord, LoweredTally, Wrote}
+use Rattle.demands.specs.Terms.{First, None, Answers, Fills, classOf, positionIn, firstOrder, secondOrder, routeElements, PairOf, RoundRecord}
+use Rattle.demands.specs.Terms.{LoweredTally, Wrote, Converted}
 
 -- ======== S-1 ENDS THAT CAN FAIL
--- ---- the lists of tests before it: document 01's, with 7, "s or t not class 0", in its place
+-- ---- the lists of tests with 7, "s or t not class 0", in its place: after 6, which S-4 put behind 8 and 32
 abbrev pub badEndClasses : List ℕ → ℕ → ℕ → Bool
 badEndClasses nodes s t = not (eqb (getD nodes s 0) 0) || not (eqb (getD nodes t 0) 0)
 
 abbrev pub formerPartTests : ℕ → List ℕ → List ℕ → ℕ → ℕ → List (ℕ × Bool)
-formerPartTests N nodes arcs s t = (5, badClasses nodes) ∷ (6, badSizes nodes) ∷ (7, badEndClasses nodes s t) ∷ (8, badArcs N arcs) ∷ []
+formerPartTests N nodes arcs s t = partTests N nodes arcs ++ (7, badEndClasses nodes s t) ∷ []
 
--- opening (1 to 9), lookup (1 to 10), search (1 to 11, then 15), writer (2, 3, 5 to 9, 11, then 15)
+-- opening (1 2 3 4 5 8 32 6 7 9), lookup (10), search (11, then 15), writer (2 3 5 8 32 6 7 9 11, then 15)
 abbrev pub formerOpenTests : List ℕ → List (ℕ × Bool)
 formerOpenTests f =
     let h = trailer f in
-    trailerTests (length f) h ++ formerPartTests (h .nodes) (nodesOf f) (arcsOf f) (h .source) (h .target) ++ (9, badRounds f) ∷ []
+    trailerTests arcSize (length f) h ++ formerPartTests (h .nodes) (nodesOf f) (arcsOf f) (h .source) (h .target) ++ (9, badRounds f) ∷ []
 
 abbrev pub formerCheckTests : List ℕ → ℕ → List (ℕ × Bool)
 formerCheckTests f r = formerOpenTests f ++ (10, badNumber f r) ∷ []
@@ -85,11 +89,11 @@ formerReportLines f = byAnswer (formerReportOpens f) (λ n. refusedLine n ∷ []
 -- ---- ends
 -- both ends are of class 0
 abbrev pub EndsNeverFail : Study → Type 0
-EndsNeverFail st = (classOf st (st .source) ≡ 0) × (classOf st (st .target) ≡ 0)
+EndsNeverFail st = (getD (st .classes) (st .source) 0 ≡ 0) × (getD (st .classes) (st .target) 0 ≡ 0)
 
 -- node v works in round r after a failures of class 1 and b of class 2; both ends do
 abbrev pub NodeWorks : Study → ℕ → ℕ → ℕ → ℕ → Type 0
-NodeWorks st r a b v = let o = roundAt st r in T (works (classOf st v) (order1 (st .classes) o) (order2 (st .classes) o) a b v)
+NodeWorks st r a b v = T (elementWorks (studyElements st) (roundAt st r) a b v)
 
 abbrev pub EndsWork : Study → ℕ → ℕ → ℕ → Type 0
 EndsWork st r a b = NodeWorks st r a b (st .source) × NodeWorks st r a b (st .target)
@@ -102,8 +106,8 @@ PlanEndsWork (parallel p q) a b = PlanEndsWork p a b ⊎ PlanEndsWork q a b
 
 -- a pair is at most node v's position, in v's class
 abbrev pub AtMostNode : Study → ℕ → Pair → ℕ → Type 0
-AtMostNode st r p v = let o = roundAt st r in
-    (classOf st v ≡ 1 → p .p1 .0 ≤ position v (order1 (st .classes) o)) × (classOf st v ≡ 2 → p .p2 .0 ≤ position v (order2 (st .classes) o))
+AtMostNode st r p v =
+    (classOf st v ≡ 1 → p .p1 .0 ≤ positionIn st (firstOrder st r) v) × (classOf st v ≡ 2 → p .p2 .0 ≤ positionIn st (secondOrder st r) v)
 
 pub record Request1 : Type 0 where
   -- "Source and target may now be of class 1 or 2.": a study is accepted where no number but 7 of the former list applies: it opens, its rounds are searched,
@@ -133,6 +137,7 @@ pub record Request1 : Type 0 where
   pub weighing-7 : (c : call.WeightsCall) → call.weightsResult c ≡ refused 7 → ⊥
   pub reliability-7 : (c : call.RateCall) → call.rateResult c ≡ refused 7 → ⊥
   pub writer-7 : (c : call.WriteCall) → call.writeResult c ≡ refused 7 → ⊥
+  pub converter-7 : (c : call.ConvertCall) → call.convertResult c ≡ refused 7 → ⊥
   pub report-7 : (f : List ℕ) → (reportOpens f ≡ refused 7 → ⊥) × ((r : ℕ) → roundAnswer f r ≡ refused 7 → ⊥)
   -- "A study with both ends of class 0 keeps its results.": each call answers by its former list, and the report's lines, of which its text is made, are
   -- those by the former lists. What a search and the writer leave in a slice is as Demand1 has it, whatever the ends
@@ -140,7 +145,7 @@ pub record Request1 : Type 0 where
       → Answers (formerOpenTests f) (openValues f) (call.openResult c)
   pub check-kept : (c : call.CheckCall) → let f = call.checkFile c in EndsNeverFail (studyOf f)
       → Answers (formerCheckTests f (call.checkRound c)) (0 ∷ []) (call.checkResult c)
-  pub lookup-kept : (c : call.LookupCall) → let f = call.lookupFile c in let n = roundSize (nodesOf f) in EndsNeverFail (studyOf f)
+  pub lookup-kept : (c : call.LookupCall) → let f = call.lookupFile c in let n = roundSize (elementsOf f) in EndsNeverFail (studyOf f)
       → None (formerCheckTests f (call.lookupRound c)) → call.lookupResult c ≡ partAt (trailerAt f - trailer f .dm + call.lookupRound c * n) n f
   pub lookup-bad-kept : (c : call.LookupCall) (n : ℕ) → let f = call.lookupFile c in EndsNeverFail (studyOf f)
       → First (formerCheckTests f (call.lookupRound c)) n → call.lookupResult c ≡ []
@@ -152,10 +157,10 @@ pub record Request1 : Type 0 where
 
 -- the sample ring with ends that fail: the source, of class 1, is the first of its class, the target, of class 2, the last of its
 abbrev pub failingRing : Given
-failingRing = given (1 ∷ 2 ∷ 1 ∷ 1 ∷ 2 ∷ 2 ∷ []) ringArcs (0 ∷ 3 ∷ 2 ∷ 5 ∷ 4 ∷ 1 ∷ []) 0 1 1
+failingRing = given (1 ∷ 2 ∷ 1 ∷ 1 ∷ 2 ∷ 2 ∷ []) ringArcs (0 ∷ 2 ∷ 1 ∷ 2 ∷ 1 ∷ 0 ∷ []) 0 1 1
 
 pub record FailingEnds : Type 0 where
-  -- it is written; by document 01's list it was 7
+  -- it is written; with 7 in its list it was not
   pub wrote : Wrote failingRing (studyBytes failingRing)
   pub formerly : First (formerOpenTests (studyBytes failingRing)) 7
   -- its front is the one pair (1, 3): it bears no failure of class 1, and of class 2 all but that of the target
@@ -259,3 +264,81 @@ pub record EdgeAges : Type 0 where
   pub last : RunAnswers 30 (success (100000 ∷ []))
   pub next : RunAnswers 31 (refused 14)
   pub largest : RunAnswers 18446744073709551615 (refused 14)
+
+-- ======== S-4 PIPES THAT FAIL
+-- The lists of tests with 32, 3A and the new members are Demand1's; that a front is the undominated pairs of routes whose arcs count (`PairOf`), and holds
+-- where removal of nodes and arcs leaves the ends joined (`RoundHolds`), is Demand2's; of joined blocks Demand3's. Here is what these words mean, and the
+-- converter's theorem.
+-- the entry at a place of the section; an arc that leads its way, or back
+abbrev pub EntryAt : Study → ℕ → Entry → Type 0
+EntryAt st i x = (i < length (st .entries)) × (getD (st .entries) i (record { from = 0; to = 0; kind = 0 }) ≡ x)
+
+abbrev pub Forward : Arc → Entry → Type 0
+Forward k x = (k .from ≡ x .from) × (k .to ≡ x .to)
+
+abbrev pub Back : Arc → Entry → Type 0
+Back k x = (k .from ≡ x .to) × (k .to ≡ x .from)
+
+-- a chain of arcs from source to target whose nodes and arcs all work after a failures of class 1 and b of class 2
+pub record WorkingChain (st : Study) (r a b : ℕ) (ks : List Arc) : Type 0 where
+  pub walk : Walk (studyArcs st) (st .source) (st .target) ks
+  pub work : (e : ℕ) → e ∈ routeElements st ks → T (elementWorks (studyElements st) (roundAt st r) a b e)
+
+pub record Request4 : Type 0 where
+  -- "Kinds 0, 1, 2 are one-way arcs of that class; 3, 4, 5 are both-way arcs of class 0, 1, 2"
+  pub arcs : (st : Study) (k : Arc) → (k ∈ studyArcs st) ↔ ((x : Entry) × EntryAt st (k .place) x × (Forward k x ⊎ ((2 < x .kind) × Back k x)))
+  pub classes : (st : Study) (k : Arc) (x : Entry) → EntryAt st (k .place) x → classOf st (arcElement st k) ≡ x .kind % 3
+  -- "failing once for both ways": arcs of one place are one element
+  pub once : (st : Study) (k l : Arc) → k .place ≡ l .place → arcElement st k ≡ arcElement st l
+  -- "Members of a class are its nodes by number, then its arcs by place in the section.": N + i is the arc at place i
+  pub members-are : (st : Study) (c : ℕ) →
+      members c (studyElements st) ≡ members c (st .classes) ++ membersFrom c (length (st .classes)) (map entryClass (st .entries))
+  -- "Rounds name a member by its place in the class, from 0.": what is named m is the class's member at m
+  pub named : (st : Study) (c m : ℕ) → m < count c (studyElements st) → let e = getD (members c (studyElements st)) m 0 in
+      (classOf st e ≡ c) × (placeInClass (studyElements st) e ≡ m)
+  -- "Class sizes count both sorts"
+  pub sizes : (st : Study) → (studySize1 st ≡ count 1 (st .classes) + count 1 (map entryClass (st .entries)))
+      × (studySize2 st ≡ count 2 (st .classes) + count 2 (map entryClass (st .entries)))
+  -- "so the size test follows the arc tests"; "32, after 8 and before 6, for a kind above 5"; "Section limits use 3A"
+  pub tests : (f : List ℕ) → let h = trailer f in let entries = entriesFrom (arcsOf f) in openTests f
+      ≡ trailerTests 3 (length f) h ++ (5, badClasses (nodesOf f)) ∷ (8, badArcs (h .nodes) entries) ∷ (32, badKinds entries)
+      ∷ (6, badSizes (elementsOf f)) ∷ (9, badRounds f) ∷ []
+  -- "and the writer's 2 means arc bytes that are no multiple of three"
+  pub writer-2 : (c : call.WriteCall) → (length (call.writeGiven c .arcs) % 3 ≡ 0 → ⊥) → call.writeResult c ≡ refused 2
+  -- "The definition of a joined network and of a route's pair from then on counts arcs, also inside joined blocks.": a searched round holds where a chain
+  -- has working nodes and working arcs; no route's pair is above the position of an arc that it uses
+  pub joined : (f : List ℕ) (r : ℕ) (x : List ℕ) → Searched f r x → (a b : ℕ) → a ≤ studySize1 (studyOf f) → b ≤ studySize2 (studyOf f)
+      → T (recordHolds x a b) ↔ ((ks : List Arc) × WorkingChain (studyOf f) r a b ks)
+  pub counted : (st : Study) (r : ℕ) (ks : List Arc) (p : Pair) → PairOf st r ks p → (k : Arc) → k ∈ ks → AtMostNode st r p (arcElement st k)
+  -- "A converter rewrites each old study whose orders are all good": where no number but 15 applies it succeeds in every slice that is long enough,
+  pub converts : (old : List ℕ) → None (convertTests old) → Converted old (convertBytes old)
+  -- "with kind 0 throughout, laid out as the writer does": what it hands on is what the writer writes of these nodes, arcs with kind 0, ends, and rounds
+  -- by places; and the writer writes it
+  pub written-as : (old f : List ℕ) → Converted old f → (f ≡ studyBytes (converted old)) × Wrote (converted old) f
+  pub kinds-0 : (old f : List ℕ) → Converted old f → (x : Entry) → x ∈ entriesFrom (arcsOf f) → x .kind ≡ 0
+  -- "and its fronts are equal to the old ones": every round is searched, and its record is, byte for byte, that of the old study by the old meaning
+  pub searches-all : (old f : List ℕ) → Converted old f → (r : ℕ) → r < trailer old .rounds → (x : List ℕ) × Searched f r x
+  pub fronts : (old f : List ℕ) → Converted old f → (r : ℕ) (x : List ℕ) → Searched f r x → x ≡ oldSearchBytes old r
+
+-- four stations that never fail; 2 and 3 are joined both ways by one pipe of class 1, 0 leads to 2 and 3 to 1 by pipes that never fail, 0 to 3 and 2 to 1
+-- by two of class 2: the way forth over the pipe bears what the way back does not
+abbrev pub bridge : Given
+bridge = given (0 ∷ 0 ∷ 0 ∷ 0 ∷ []) (0 ∷ 2 ∷ 0 ∷ 3 ∷ 1 ∷ 0 ∷ 3 ∷ 2 ∷ 4 ∷ 0 ∷ 3 ∷ 2 ∷ 2 ∷ 1 ∷ 2 ∷ []) (0 ∷ 1 ∷ 0 ∷ []) 0 1 1
+
+-- two stations, an arc of kind 1 and a round of one byte
+abbrev pub either : List ℕ
+either = studyBytes (given (0 ∷ 0 ∷ []) (0 ∷ 1 ∷ 1 ∷ []) (0 ∷ []) 0 1 1)
+
+pub record FailingPipe : Type 0 where
+  pub wrote : Wrote bridge (studyBytes bridge)
+  -- (2, 2): a pipe of class 2, the last of its class to fail; (1, 3): over the pipe between 2 and 3
+  pub found : Searched (studyBytes bridge) 0 (1 ∷ 2 ∷ 2 ∷ 2 ∷ 2 ∷ 1 ∷ 3 ∷ [])
+  -- it is used against the way that its entry was written in
+  pub used-back : RoundHolds (studyOf (studyBytes bridge)) 0 0 2
+  -- and fails for that way too
+  pub failed : RoundHolds (studyOf (studyBytes bridge)) 0 1 2 → ⊥
+  -- the old ring of document 01, 56 bytes, converted: the new ring, 63 bytes
+  pub ring : Converted oldRingFile ringFile
+  -- "Nothing in a file tells its form": these bytes are an old study, whose arc never fails, and a new one, whose arc is of class 1; both are good
+  pub as-old : None (convertTests either) × (oldSearchBytes either 0 ≡ 0 ∷ 0 ∷ 1 ∷ 1 ∷ 1 ∷ [])
+  pub as-new : Searched either 0 (1 ∷ 0 ∷ 1 ∷ 1 ∷ 1 ∷ [])

@@ -27,7 +27,7 @@ ringRounds = (ringFile, 0) ∷ []
 
 pub record RingClaims : Type 0 where
   -- R1: the writer hands on the ring's file; R2: the search of its round hands on the record 2 2 3 3 1 2 2 1 3
-  pub wrote : Wrote (ringWith (3 ∷ 2 ∷ 5 ∷ 4 ∷ [])) ringFile
+  pub wrote : Wrote (ringWith (1 ∷ 0 ∷ 1 ∷ 0 ∷ [])) ringFile
   pub found : Searched ringFile 0 ring
   -- two files that differ in a byte in front of their sections, which nothing reads
   pub outside : SameSections (1 ∷ ringFile) (2 ∷ ringFile)

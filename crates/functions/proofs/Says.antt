@@ -16,6 +16,7 @@ use Rattle.study.specs.Calls.{openValues, checkTests, roundTests}
 use Rattle.search.specs.Search.{searchAnswer, searchBytes}
 use Rattle.compose.specs.Compose.{seriesAnswer, seriesBytes, parallelAnswer, parallelBytes}
 use Rattle.writer.specs.Writer.{Given, givenTests, writeAnswer, studyBytes}
+use Rattle.convert.specs.Convert.{convertTests, convertBytes, convertAnswer}
 use Rattle.tally.specs.Cells.{tallyOf}
 use Rattle.tally.specs.Calls.{newAnswer, added, addAnswer, removed, removeAnswer}
 use Rattle.chance.specs.Chance.{weights}
@@ -63,7 +64,10 @@ use Rattle.medlarbrace.proofs.tallies.medlarbrace_reliability.Symbol as reliabi
 use Rattle.medlarbrace.proofs.files.medlarbrace_write.Reads as writer-reads
 use Rattle.medlarbrace.proofs.files.medlarbrace_write.Met as writer-met
 use Rattle.medlarbrace.proofs.files.medlarbrace_write.Symbol as writer-symbol
-use Rattle.functions.specs.Functions.{openFunction, roundFunction, searchFunction, seriesFunction, parallelFunction, newFunction, addFunction, removeFunction, ageingFunction, weightsFunction, reliabilityFunction, writeFunction, Says, KeepsUnless0, NeverReturns, EveryFunction}
+use Rattle.medlarbrace.proofs.files.medlarbrace_convert.Reads as converter-reads
+use Rattle.medlarbrace.proofs.files.medlarbrace_convert.Met as converter-met
+use Rattle.medlarbrace.proofs.files.medlarbrace_convert.Symbol as converter-symbol
+use Rattle.functions.specs.Functions.{openFunction, roundFunction, searchFunction, seriesFunction, parallelFunction, newFunction, addFunction, removeFunction, ageingFunction, weightsFunction, reliabilityFunction, writeFunction, convertFunction, Says, KeepsUnless0, NeverReturns, EveryFunction}
 
 -- the machine's value is the number that was returned
 returned : {v : Val} {n m : ℕ} → v ∷ [] ≡ vint w32 n ∷ [] → n ≡ m → v ≡ vint w32 m
@@ -251,6 +255,17 @@ writer-said g out k others e =
     let d = told (writeFunction g out k) e in
     (returned (e .value-is .0) (d .kept .0), rw (← d .kept .1 .0, ← d .kept .1 .1) (d .memory-is))
 
+-- ---- medlarbrace_convert; its blocks are a search's
+converter-ends : (f out : List ℕ) (k : ℕ) → AlwaysEnds (convertFunction f out k)
+unfolding tablesOf
+converter-ends f out k =
+    always (convertFunction f out k) (converter-reads.known w₀ (λ i. converter-symbol.routine) anyName converter-symbol.routine refl (converter-met.met (w₀ .𝓤) (w₀ .H) (w₀ .𝓜) (w₀ .𝓖) (w₀ .𝓡))) (λ κs. tt) (λ b κs γs. tt)
+
+converter-said : (f out : List ℕ) (k : ℕ) → let a = convertAnswer f (length out) in Says (convertFunction f out k) a (search-left f k (filled a (convertBytes f) out) a)
+converter-said f out k others e =
+    let d = told (convertFunction f out k) e in
+    (returned (e .value-is .0) (d .kept .0), rw (← d .kept .1 .0, ← d .kept .1 .1) (d .memory-is))
+
 -- THE THEOREM
 pub every-function : EveryFunction
 every-function =
@@ -267,6 +282,7 @@ every-function =
       weights-ends = weights-ends;
       reliability-ends = reliability-ends;
       writer-ends = writer-ends;
+      converter-ends = converter-ends;
       search-says = λ c k. likewise (searchFunction (call.searchFile c) (call.searchRound c) (call.searchLent c) k) (search-left (call.searchFile c) k) (call.searchResult c) _ (call.searchLeft c) _ (c .kept .0) (c .kept .1) (search-said (call.searchFile c) (call.searchRound c) (call.searchLent c) k);
       series-says = λ c k. likewise (seriesFunction (call.seriesFirst c) (call.seriesSecond c) (call.seriesLent c) k) (series-left (call.seriesFirst c) (call.seriesSecond c) k) (call.seriesResult c) _ (call.seriesLeft c) _ (c .kept .0) (c .kept .1) (series-said (call.seriesFirst c) (call.seriesSecond c) (call.seriesLent c) k);
       parallel-says = λ c k. likewise (parallelFunction (call.parallelFirst c) (call.parallelSecond c) (call.parallelLent c) k) (series-left (call.parallelFirst c) (call.parallelSecond c) k) (call.parallelResult c) _ (call.parallelLeft c) _ (c .kept .0) (c .kept .1) (parallel-said (call.parallelFirst c) (call.parallelSecond c) (call.parallelLent c) k);
@@ -277,6 +293,7 @@ every-function =
       weights-says = λ c. likewise (weightsFunction (call.weightsNodes c) (call.weightsChance c) (call.weightsLent c)) new-left (call.weightsResult c) _ (call.weightsLeft c) _ (c .kept .0) (c .kept .1) (weights-said (call.weightsNodes c) (call.weightsChance c) (call.weightsLent c));
       reliability-says = λ c s m r. rw (c .kept) (reliability-said (call.rateTally c) (call.rateChance1 c) (call.rateChance2 c) s m r);
       writer-says = λ c k. likewise (writeFunction (call.writeGiven c) (call.writeLent c) k) (writer-left (call.writeGiven c) k) (call.writeResult c) _ (call.writeLeft c) _ (c .kept .0) (c .kept .1) (writer-said (call.writeGiven c) (call.writeLent c) k);
+      converter-says = λ c k. likewise (convertFunction (call.convertFile c) (call.convertLent c) k) (search-left (call.convertFile c) k) (call.convertResult c) _ (call.convertLeft c) _ (c .kept .0) (c .kept .1) (converter-said (call.convertFile c) (call.convertLent c) k);
       opening-says = opening-said;
       lookup-says = lookup-said;
       lookup-placed = λ c start count h. let p = round-placed (call.lookupFile c) (call.lookupRound c) start count h in (p .0, c .kept .0 ∙ sym (p .1));
@@ -305,5 +322,10 @@ every-function =
           let b = studyBytes g in
           let a = writeAnswer g (length out) in
           never (writeFunction g out k) 7 a (writer-left g k (filled a b out) a) (λ e. absurd (omega (arith, e))) (writer-said g out k) (fill-never 7 (givenTests g) b (length out) tt);
+      converter-7 = λ f out k.
+          let b = convertBytes f in
+          let a = convertAnswer f (length out) in
+          never (convertFunction f out k) 7 a (search-left f k (filled a b out) a) (λ e. absurd (omega (arith, e))) (converter-said f out k) (fill-never 7 (convertTests f) b (length out) tt);
+      converter-keeps = λ f out k. keeps (convertFunction f out k) (λ a. search-left f k (filled a (convertBytes f) out) a) (λ i. refl) (convertAnswer f (length out)) (converter-said f out k);
       writer-keeps = λ g out k. keeps (writeFunction g out k) (λ a. writer-left g k (filled a (studyBytes g) out) a) (λ i. refl) (writeAnswer g (length out)) (writer-said g out k);
     }

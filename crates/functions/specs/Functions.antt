@@ -50,6 +50,9 @@ use Rattle.medlarbrace.proofs.tallies.medlarbrace_reliability.Symbol as reliabi
 use Rattle.medlarbrace.proofs.files.medlarbrace_write.Kinds as writer-kinds
 use Rattle.medlarbrace.proofs.files.medlarbrace_write.Reads as writer-reads
 use Rattle.medlarbrace.proofs.files.medlarbrace_write.Symbol as writer-symbol
+use Rattle.medlarbrace.proofs.files.medlarbrace_convert.Kinds as converter-kinds
+use Rattle.medlarbrace.proofs.files.medlarbrace_convert.Reads as converter-reads
+use Rattle.medlarbrace.proofs.files.medlarbrace_convert.Symbol as converter-symbol
 
 -- ---- THE FUNCTIONS with their arguments; k is what `written` leads to at the call
 -- medlarbrace_open(file, header)
@@ -118,6 +121,12 @@ writeFunction g out k =
     ∷ number w64 (g .source) ∷ number w64 (g .target) ∷ number w64 (g .total) ∷ mutable u8 3 tt out ∷ place u64 4 tt k ∷ [])
     (value writer-kinds.r) writer-reads.Asked writer-reads.Learnt writer-symbol.routine
 
+-- medlarbrace_convert(old, out, written)
+abbrev pub convertFunction : List ℕ → List ℕ → ℕ → Run
+convertFunction f out k =
+    run 3 (shared u8 0 tt f ∷ mutable u8 1 tt out ∷ place u64 2 tt k ∷ [])
+    (value converter-kinds.r) converter-reads.Asked converter-reads.Learnt converter-symbol.routine
+
 -- ---- WHAT IS SAID OF A RUN
 -- it returns 0 or the number of this answer's refusal (`code`), and what it was lent then holds these, a block each
 abbrev pub Says : Run → Outcome → List Block → Type 0
@@ -145,6 +154,7 @@ pub record EveryFunction : Type 0 where
   pub weights-ends : (n p : ℕ) (out : List ℕ) → AlwaysEnds (weightsFunction n p out)
   pub reliability-ends : (t : List ℕ) (p1 p2 s m r : ℕ) → AlwaysEnds (reliabilityFunction t p1 p2 s m r)
   pub writer-ends : (g : Given) (out : List ℕ) (k : ℕ) → AlwaysEnds (writeFunction g out k)
+  pub converter-ends : (f out : List ℕ) (k : ℕ) → AlwaysEnds (convertFunction f out k)
   -- what each answers and leaves: for every call, the function with that call's arguments answers and leaves what the call did; a value of
   -- the answer goes where its pointer leads (`result`: the value's place in the answer; what was there, on a refusal)
   pub search-says : (c : call.SearchCall) (k : ℕ) → let a = call.searchResult c in
@@ -173,7 +183,10 @@ pub record EveryFunction : Type 0 where
   pub writer-says : (c : call.WriteCall) (k : ℕ) → let a = call.writeResult c in let g = call.writeGiven c in
       Says (writeFunction g (call.writeLent c) k) a
       (block u8 (g .nodes) ∷ block u8 (g .arcs) ∷ block u8 (g .rounds) ∷ block u8 (call.writeLeft c) ∷ block u64 (result 0 a k ∷ []) ∷ [])
-  -- opening into seven words (1 to 6, 8, 9, then 15), and lookup by place (1 to 6, 8 to 10): the place and length of the part that lookup hands back
+  pub converter-says : (c : call.ConvertCall) (k : ℕ) → let a = call.convertResult c in
+      Says (convertFunction (call.convertFile c) (call.convertLent c) k) a
+      (block u8 (call.convertFile c) ∷ block u8 (call.convertLeft c) ∷ block u64 (result 0 a k ∷ []) ∷ [])
+  -- opening into seven words (opening's numbers, then 15), and lookup by place (lookup's): the place and length of the part that lookup hands back
   pub opening-says : (f header : List ℕ) → Says (openFunction f header) (headerAnswer f (length header)) (block u8 f ∷ block u32 (headerOut f header) ∷ [])
   pub lookup-says : (f : List ℕ) (r start count : ℕ) → let a = placeAnswer f r in
       Says (roundFunction f r start count) a (block u8 f ∷ block u64 (result 0 a start ∷ []) ∷ block u64 (result 1 a count ∷ []) ∷ [])
@@ -192,8 +205,10 @@ pub record EveryFunction : Type 0 where
   pub weights-keeps : (n p : ℕ) (out : List ℕ) → KeepsUnless0 (weightsFunction n p out)
   pub reliability-keeps : (t : List ℕ) (p1 p2 s m r : ℕ) → KeepsUnless0 (reliabilityFunction t p1 p2 s m r)
   pub writer-keeps : (g : Given) (out : List ℕ) (k : ℕ) → KeepsUnless0 (writeFunction g out k)
+  pub converter-keeps : (f out : List ℕ) (k : ℕ) → KeepsUnless0 (convertFunction f out k)
   -- 02, S-1: "Number 7 no longer occurs." Of the functions on studies, which had it
   pub opening-7 : (f header : List ℕ) → NeverReturns 7 (openFunction f header)
   pub lookup-7 : (f : List ℕ) (r start count : ℕ) → NeverReturns 7 (roundFunction f r start count)
   pub search-7 : (f : List ℕ) (r : ℕ) (out : List ℕ) (k : ℕ) → NeverReturns 7 (searchFunction f r out k)
   pub writer-7 : (g : Given) (out : List ℕ) (k : ℕ) → NeverReturns 7 (writeFunction g out k)
+  pub converter-7 : (f out : List ℕ) (k : ℕ) → NeverReturns 7 (convertFunction f out k)

@@ -1,4 +1,4 @@
--- THE CALLS OF DOCUMENT 01, and remove of document 02, and their arguments by name. Nothing outside this file reads a call in another way.
+-- THE CALLS OF DOCUMENT 01, and remove and convert of document 02, and their arguments by name. Nothing outside this file reads a call in another way.
 -- From a public function F of a crate C the checker makes modules that a definition may cite:
 --   Rattle.C.proofs.F.Kinds    `ps` and `r`: the kinds of F's parameters, in the order of the source, and of its result
 --   Rattle.C.proofs.F.Reads    F's contract: `Learnt`, all its `ensures`, what every caller is told; `Asked`, all its `requires`, what a caller must show
@@ -55,6 +55,9 @@ use Rattle.reliability.proofs.reliability.Symbol as rate-symbol
 use Rattle.writer.proofs.write_study.Kinds as write-kinds
 use Rattle.writer.proofs.write_study.Reads as write-reads
 use Rattle.writer.proofs.write_study.Symbol as write-symbol
+use Rattle.convert.proofs.convert.Kinds as convert-kinds
+use Rattle.convert.proofs.convert.Reads as convert-reads
+use Rattle.convert.proofs.convert.Symbol as convert-symbol
 use Rattle.writer.specs.Writer.{Given, given}
 
 -- ---- OPENING: study::open_study(file)
@@ -355,3 +358,25 @@ writeRun g s =
     (shared u8 0 tt (g .nodes) ∷ shared u8 1 tt (g .arcs) ∷ shared u8 2 tt (g .rounds)
     ∷ number w64 (g .source) ∷ number w64 (g .target) ∷ number w64 (g .total) ∷ mutable u8 3 tt s ∷ [])
     (value write-kinds.r) write-reads.Asked write-reads.Learnt write-symbol.routine
+
+-- ---- THE CONVERTER: convert::convert(old, out)
+abbrev pub ConvertCall : Type 0
+ConvertCall = Call 2 convert-kinds.ps convert-kinds.r convert-reads.Learnt
+
+abbrev pub convertFile : ConvertCall → List ℕ
+convertFile c = c .args .0 .now
+
+abbrev pub convertLent : ConvertCall → List ℕ
+convertLent c = c .args .1 .0 .now
+
+abbrev pub convertFileAfter : ConvertCall → List ℕ
+convertFileAfter c = after c .0 .now
+
+abbrev pub convertLeft : ConvertCall → List ℕ
+convertLeft c = after c .1 .0 .now
+
+abbrev pub convertResult : ConvertCall → Outcome
+convertResult c = written (c .result)
+
+abbrev pub convertRun : List ℕ → List ℕ → Run
+convertRun f s = run 2 (shared u8 0 tt f ∷ mutable u8 1 tt s ∷ []) (value convert-kinds.r) convert-reads.Asked convert-reads.Learnt convert-symbol.routine

@@ -1,14 +1,16 @@
--- The steps of `drain`, `below`, `flood` and `turn`, over lists.
+-- The steps of `drain`, `next_level` and `flood`, over lists, and of a node that enters.
 use mathlib.Core.Path.{_≡_, refl, sym, ap, _∙_, subst}
 use mathlib.Core.Logic.{_⊎_, inl, inr, ⊎-elim}
 use mathlib.Core.List.{List, [], _∷_}
-use Prim.Native.Nat.{ℕ, zero, suc, _+_, _-_, _*_, _≤_, _<_}
+use Prim.Native.Nat.{ℕ, zero, suc, _+_, _-_, _≤_, _<_}
 use native.Mathlib.Omega.{arith}
 use lib.ListN.{length, getD, set, length-set}
 use lib.Seq.{getD-set-same, getD-set-other}
-use Rattle.limits.specs.Limits.{arcSize, arcCount, maxPosition}
+use Rattle.limits.specs.Limits.{maxPosition}
 use Rattle.laws.specs.Tests.{order, equal}
-use Rattle.relax.specs.Steps.{Walked, Graph, Chains, toAt, graphNetwork, low, Quiet, Ripe, Why, quiet, piled, waits, left, Named, Work, Kept, NextLevel, Still, Room, Lengths, start}
+use Rattle.chains.specs.Steps.{toAt, headAt, Linked}
+use Rattle.relax.specs.declared.Step.{Step}
+use Rattle.relax.specs.Steps.{Walked, Graph, graphNetwork, low, Relaxed, Ripe, Why, relaxed, piled, waits, left, Named, Work, Kept, NextLevel, Settled, Lent, Ready, Floodable, Lengths, start, moved}
 use Rattle.relax.proofs.Labels.{held-lower, held-t, pair-first}
 use Rattle.relax.proofs.Spreads.{low-less}
 
@@ -16,8 +18,8 @@ use Rattle.relax.proofs.Spreads.{low-less}
 module _ {f : Graph} {a l : ℕ} {d stack wait : List ℕ} {top v i : ℕ} (w : Work f a l d stack wait top v i) where
   refit : (stack′ : List ℕ) (top′ v′ i′ : ℕ) → top′ + low l d ≤ length d
       → ((k : ℕ) → k < top′ → Ripe f a l d (getD stack′ k 0))
-      → (0 < i′ → Ripe f a l d v′ × (i′ ≤ arcCount (f .arcs)) × (toAt (f .arcs) (i′ - 1) ≡ v′))
-      → ((j : ℕ) → j < arcCount (f .arcs) → Why f l d stack wait top v i j → Why f l d stack′ wait top′ v′ i′ j)
+      → (0 < i′ → Ripe f a l d v′ × (i′ ≤ length (f .arcs)) × (toAt (f .arcs) (i′ - 1) ≡ v′))
+      → ((j : ℕ) → j < length (f .arcs) → Why f l d stack wait top v i j → Why f l d stack′ wait top′ v′ i′ j)
       → Work f a l d stack′ wait top′ v′ i′
   refit stack′ top′ v′ i′ fits pile going go =
       record {
@@ -45,25 +47,25 @@ begin {f} {a} {l} {d} {wait} {v} stack h w = refit w (set stack 0 v) 1 0 0 (w .f
     same zero b = sym (getD-set-same stack 0 v 0 h)
     same (suc k) b = absurd (omega arith)
 
-    go : (j : ℕ) → j < arcCount (f .arcs) → Why f l d (v ∷ []) wait 1 0 0 j → Why f l d (set stack 0 v) wait 1 0 0 j
-    go j n (quiet x) = quiet x
+    go : (j : ℕ) → j < length (f .arcs) → Why f l d (v ∷ []) wait 1 0 0 j → Why f l d (set stack 0 v) wait 1 0 0 j
+    go j n (relaxed x) = relaxed x
     go j n (piled k h e) = piled k h (sym (same k h) ∙ e)
     go j n (waits x) = waits x
     go j n (left e h) = left e h
 
 -- a node is popped, and its chain begins
-pub pop : {f : Graph} {first more : List ℕ} → Chains (f .arcs) first more (arcCount (f .arcs)) → {a l : ℕ} {d stack wait : List ℕ} {top : ℕ} → Work f a l d stack wait top 0 0
-    → (k : ℕ) → top ≡ suc k → (u : ℕ) → u ≡ getD stack k 0 → (u < length (f .entry)) × Work f a l d stack wait k u (getD first u 0)
-pop {f} {first} {more} ch {a} {l} {d} {stack} {wait} {top} w k is u is-u =
-    (ripe .node, refit w stack k u (getD first u 0) (omega (arith, w .fits)) (λ n h. w .pile n (omega arith)) (λ h. let r = ch .head-is u (getD first u 0 - 1) (omega arith) in (ripe, omega arith, r .1)) go)
+pop : {f : Graph} {size : ℕ} {links : List ℕ} → Linked size (f .arcs) links → length (f .entry) ≤ size → {a l : ℕ} {d stack wait : List ℕ} {top : ℕ} → Work f a l d stack wait top 0 0
+    → (k : ℕ) → top ≡ suc k → (u : ℕ) → u ≡ getD stack k 0 → (u < length (f .entry)) × Work f a l d stack wait k u (headAt links u)
+pop {f} {links = links} ch in-size {a} {l} {d} {stack} {wait} {top} w k is u is-u =
+    (ripe .node, refit w stack k u (headAt links u) (omega (arith, w .fits)) (λ n h. w .pile n (omega arith)) (λ h. let r = ch .head-is u (headAt links u - 1) (omega (arith, ripe .node, in-size)) (omega arith) in (ripe, omega arith, r .1)) go)
   where
     ripe : Ripe f a l d u
     ripe = rw is-u (w .pile k (omega arith))
 
-    go : (j : ℕ) → j < arcCount (f .arcs) → Why f l d stack wait top 0 0 j → Why f l d stack wait k u (getD first u 0) j
-    go j h (quiet x) = quiet x
+    go : (j : ℕ) → j < length (f .arcs) → Why f l d stack wait top 0 0 j → Why f l d stack wait k u (headAt links u) j
+    go j h (relaxed x) = relaxed x
     go j h (piled n b e) =
-        ⊎-elim (λ le. let q : n ≡ k = omega arith in let r : toAt (f .arcs) j ≡ u = sym e ∙ ap (λ m. getD stack m 0) q ∙ sym is-u in left r (subst (λ x. j < getD first x 0) r (ch .head j h))) (λ lt. piled n lt e) (order k n)
+        ⊎-elim (λ le. let q : n ≡ k = omega arith in let r : toAt (f .arcs) j ≡ u = sym e ∙ ap (λ m. getD stack m 0) q ∙ sym is-u in left r (subst (λ x. j < headAt links x) r (ch .head j h))) (λ lt. piled n lt e) (order k n)
     go j h (waits x) = waits x
     go j h (left e b) = absurd (omega arith)
 
@@ -71,40 +73,40 @@ pop {f} {first} {more} ch {a} {l} {d} {stack} {wait} {top} w k is u is-u =
 anew : {f : Graph} {a l : ℕ} {d stack wait : List ℕ} {top v : ℕ} → Work f a l d stack wait top v 0 → Work f a l d stack wait top 0 0
 anew {f} {a} {l} {d} {stack} {wait} {top} {v} w = refit w stack top 0 0 (w .fits) (w .pile) (λ h. absurd (omega arith)) go
   where
-    go : (j : ℕ) → j < arcCount (f .arcs) → Why f l d stack wait top v 0 j → Why f l d stack wait top 0 0 j
-    go j h (quiet x) = quiet x
+    go : (j : ℕ) → j < length (f .arcs) → Why f l d stack wait top v 0 j → Why f l d stack wait top 0 0 j
+    go j h (relaxed x) = relaxed x
     go j h (piled n b e) = piled n b e
     go j h (waits x) = waits x
     go j h (left e b) = absurd (omega arith)
 
--- what is on the stack when s has the level is quiet
-pub rest : {f : Graph} {a l : ℕ} {d stack wait : List ℕ} {top : ℕ} → Work f a l d stack wait top 0 0 → (0 < top → l ≤ getD d (f .source) 0) → Work f a l d [] wait 0 0 0
-rest {f} {a} {l} {d} {stack} {wait} {top} w enough = refit w [] 0 0 0 (omega (arith, w .fits)) (λ k h. absurd (omega arith)) (λ h. absurd (omega arith)) go
+-- once s has the level, every arc into a node on the stack is relaxed
+pub emptied : {f : Graph} {a l : ℕ} {d stack wait : List ℕ} {top : ℕ} → Work f a l d stack wait top 0 0 → (0 < top → l ≤ getD d (f .source) 0) → Work f a l d [] wait 0 0 0
+emptied {f} {a} {l} {d} {stack} {wait} {top} w enough = refit w [] 0 0 0 (omega (arith, w .fits)) (λ k h. absurd (omega arith)) (λ h. absurd (omega arith)) go
   where
-    go : (j : ℕ) → j < arcCount (f .arcs) → Why f l d stack wait top 0 0 j → Why f l d [] wait 0 0 0 j
-    go j h (quiet x) = quiet x
-    go j h (piled n b e) = quiet (omega (arith, enough (omega arith), w .pile n b .at, ap (λ x. getD d x 0) e))
+    go : (j : ℕ) → j < length (f .arcs) → Why f l d stack wait top 0 0 j → Why f l d [] wait 0 0 0 j
+    go j h (relaxed x) = relaxed x
+    go j h (piled n b e) = relaxed (omega (arith, enough (omega arith), w .pile n b .at, ap (λ x. getD d x 0) e))
     go j h (waits x) = waits x
     go j h (left e b) = absurd (omega arith)
 
-pub record Draining (f : Graph) (first more : List ℕ) (a l : ℕ) (d₀ stack₀ wait₀ d stack wait : List ℕ) (top : ℕ) : Type 0 where
+pub record Draining (f : Graph) (capacities links : List ℕ) (a l : ℕ) (d₀ stack₀ wait₀ d stack wait : List ℕ) (top : ℕ) : Type 0 where
   -- the labels, no chain at work
   pub work : Work f a l d stack wait top 0 0
   -- as long as at the start
   pub lengths : Lengths d₀ stack₀ wait₀ d stack wait
-  -- the chains
-  pub chains : Chains (f .arcs) first more (arcCount (f .arcs))
-  -- room for them and on the stack
-  pub room : Room (f .arcs) (f .entry) first more d stack
+  -- what the slices hold
+  pub lent : Lent f capacities links
+  -- the stack holds every node
+  pub room : length d ≤ length stack
 
-pub drained : {f : Graph} {first more : List ℕ} {a l : ℕ} {d₀ stack₀ wait₀ d stack wait : List ℕ} {top : ℕ} → Draining f first more a l d₀ stack₀ wait₀ d stack wait top
-    → {top₁ : ℕ} {d₁ stack₁ wait₁ : List ℕ} {top₂ v : ℕ} → Work f a l d₁ stack₁ wait₁ top₂ v 0 → Kept l d stack wait top₁ d₁ stack₁ wait₁ top₂ → Draining f first more a l d₀ stack₀ wait₀ d₁ stack₁ wait₁ top₂
+pub drained : {f : Graph} {capacities links : List ℕ} {a l : ℕ} {d₀ stack₀ wait₀ d stack wait : List ℕ} {top : ℕ} → Draining f capacities links a l d₀ stack₀ wait₀ d stack wait top
+    → {top₁ : ℕ} {d₁ stack₁ wait₁ : List ℕ} {top₂ v : ℕ} → Work f a l d₁ stack₁ wait₁ top₂ v 0 → Kept l d stack wait top₁ d₁ stack₁ wait₁ top₂ → Draining f capacities links a l d₀ stack₀ wait₀ d₁ stack₁ wait₁ top₂
 drained n w k =
     record {
       work = anew w;
       lengths = record { labels = k .long ∙ n .lengths .labels; pile = k .long-stack ∙ n .lengths .pile; levels = k .long-wait ∙ n .lengths .levels };
-      chains = n .chains;
-      room = record { nodes = n .room .nodes; places = n .room .places; labels = omega (arith, n .room .labels, k .long, k .long-stack) };
+      lent = n .lent;
+      room = omega (arith, n .room, k .long, k .long-stack);
     }
 
 -- ---- the level below
@@ -131,7 +133,7 @@ seek-on {wait} {l} {m} s h e =
     }
 
 module _ {f : Graph} {a l : ℕ} {d wait : List ℕ} (w : Work f a l d [] wait 0 0 0) where
-  pub settle : {m : ℕ} → NextLevel wait l (getD d (f .source) 0) m → m ≡ 0 → a < start f → Still f a d wait
+  pub settle : {m : ℕ} → NextLevel wait l (getD d (f .source) 0) m → m ≡ 0 → a < start f → Settled f a d wait
   settle {m} n z b =
       record {
         laid = w .laid;
@@ -142,11 +144,11 @@ module _ {f : Graph} {a l : ℕ} {d wait : List ℕ} (w : Work f a l d [] wait 0
         at-t = λ _. w .at-t;
         clear = λ h. absurd (omega arith);
         marked = w .marked;
-        calm = λ j h e. go j (w .why j h e);
+        relaxed = λ j h e. go j (w .why j h e);
       }
     where
-      go : (j : ℕ) → Why f l d [] wait 0 0 0 j → Quiet f d j
-      go j (quiet x) = x
+      go : (j : ℕ) → Why f l d [] wait 0 0 0 j → Relaxed f d j
+      go j (relaxed x) = x
       go j (piled k h e) = absurd (omega arith)
       go j (waits x) =
           ⊎-elim (λ le. omega arith) (λ lt. absurd (x .flag (n .none (getD d (toAt (f .arcs) j) 0) (omega arith) (x .below)))) (order (getD d (toAt (f .arcs) j) 0) (getD d (f .source) 0))
@@ -154,10 +156,7 @@ module _ {f : Graph} {a l : ℕ} {d wait : List ℕ} (w : Work f a l d [] wait 0
 
   module _ {m : ℕ} (n : NextLevel wait l (getD d (f .source) 0) m) (h : 0 < m) (p : ℕ) (is : p ≡ m) (y : ℕ) (is-y : getD wait m 0 ≡ suc y) where
     named : Named f d m y
-    named = w .marked m y is-y
-
-    pub in-wait : p < length wait
-    in-wait = omega (arith, named .below, w .laid .small2, w .long-wait)
+    named = w .marked m y h is-y
 
     descend : Work f a m d (y ∷ []) (set wait p 0) 1 0 0
     descend =
@@ -174,7 +173,7 @@ module _ {f : Graph} {a l : ℕ} {d wait : List ℕ} (w : Work f a l d [] wait 0
           fits = omega (arith, low-less m y d (omega (arith, named .node, w .long)) (omega (arith, named .label)));
           pile = pile;
           going = λ z. absurd (omega arith);
-          marked = λ c x z. w .marked c x (kept c x z);
+          marked = λ c x pos z. w .marked c x pos (kept c x z);
           why = λ j b e. go j b (w .why j b e);
         })
       where
@@ -187,8 +186,8 @@ module _ {f : Graph} {a l : ℕ} {d wait : List ℕ} (w : Work f a l d [] wait 0
         pile zero b = record { node = named .node; at = named .label; in-it = omega (arith, w .early, w .laid .apart y (named .node) (omega (arith, named .full, named .below))) }
         pile (suc k) b = absurd (omega arith)
 
-        go : (j : ℕ) → j < arcCount (f .arcs) → Why f l d [] wait 0 0 0 j → Why f m d (y ∷ []) (set wait m 0) 1 0 0 j
-        go j b (quiet x) = quiet x
+        go : (j : ℕ) → j < length (f .arcs) → Why f l d [] wait 0 0 0 j → Why f m d (y ∷ []) (set wait m 0) 1 0 0 j
+        go j b (relaxed x) = relaxed x
         go j b (piled k h e) = absurd (omega arith)
         go j b (left e h) = absurd (omega arith)
         go j b (waits x) =
@@ -196,39 +195,39 @@ module _ {f : Graph} {a l : ℕ} {d wait : List ℕ} (w : Work f a l d [] wait 0
             ⊎-elim
             (λ le.
             ⊎-elim
-            (λ e. piled 0 (omega arith) (w .laid .only y (toAt (f .arcs) j) (named .node) (w .laid .ends (2 * j + 1) (omega arith)) (named .full ∙ sym (x .full ∙ e)) (omega (arith, named .full, named .below))))
+            (λ e. piled 0 (omega arith) (w .laid .only y (toAt (f .arcs) j) (named .node) (w .laid .ends j (omega arith) .1) (named .full ∙ sym (x .full ∙ e)) (omega (arith, named .full, named .below))))
             (λ ne. waits (record { below = omega arith; full = x .full; flag = λ q. x .flag (sym (getD-set-other wait m z 0 0 ne) ∙ q) })) (equal z m))
             (λ lt. absurd (x .flag (n .none z (omega (arith, n .found h)) (x .below)))) (order z m)
 
-pub record Flooding (f : Graph) (first more : List ℕ) (a : ℕ) (d₀ stack₀ wait₀ d stack wait : List ℕ) (l v : ℕ) : Type 0 where
+pub record Flooding (f : Graph) (capacities links : List ℕ) (a : ℕ) (d₀ stack₀ wait₀ d stack wait : List ℕ) (l v : ℕ) : Type 0 where
   -- the labels, with v alone on the stack
   pub work : Work f a l d (v ∷ []) wait 1 0 0
   -- as long as at the start
   pub lengths : Lengths d₀ stack₀ wait₀ d stack wait
-  -- the chains
-  pub chains : Chains (f .arcs) first more (arcCount (f .arcs))
-  -- room for them and on the stack
-  pub room : Room (f .arcs) (f .entry) first more d stack
+  -- what the slices hold
+  pub lent : Lent f capacities links
+  -- the stack holds every node
+  pub room : length d ≤ length stack
   -- both ends are in
   pub begun : a < start f
 
 pub joined : {a b c d e g h i j : List ℕ} → Lengths a b c d e g → Lengths d e g h i j → Lengths a b c h i j
 joined x y = record { labels = y .labels ∙ x .labels; pile = y .pile ∙ x .pile; levels = y .levels ∙ x .levels }
 
-pub flooded : {f : Graph} {first more : List ℕ} {a : ℕ} {d₀ stack₀ wait₀ d stack wait : List ℕ} {l v : ℕ} → Flooding f first more a d₀ stack₀ wait₀ d stack wait l v
+pub flooded : {f : Graph} {capacities links : List ℕ} {a : ℕ} {d₀ stack₀ wait₀ d stack wait : List ℕ} {l v : ℕ} → Flooding f capacities links a d₀ stack₀ wait₀ d stack wait l v
     → {d₁ stack₁ wait₁ : List ℕ} → Work f a l d₁ [] wait₁ 0 0 0 → Lengths d stack wait d₁ stack₁ wait₁ → {m : ℕ} → NextLevel wait₁ l (getD d₁ (f .source) 0) m → 0 < m → (p : ℕ) → p ≡ m → (y : ℕ) → getD wait₁ m 0 ≡ suc y
-    → Flooding f first more a d₀ stack₀ wait₀ d₁ stack₁ (set wait₁ p 0) m y
+    → Flooding f capacities links a d₀ stack₀ wait₀ d₁ stack₁ (set wait₁ p 0) m y
 flooded n {d₁} {stack₁} {wait₁} w k x h p is y is-y =
     record {
       work = descend w x h p is y is-y;
       lengths = joined (n .lengths) (record { labels = k .labels; pile = k .pile; levels = length-set wait₁ p 0 ∙ k .levels });
-      chains = n .chains;
-      room = record { nodes = n .room .nodes; places = n .room .places; labels = omega (arith, n .room .labels, k .labels, k .pile) };
+      lent = n .lent;
+      room = omega (arith, n .room, k .labels, k .pile);
       begun = n .begun;
     }
 
 -- ---- one failure fewer
-module _ {f : Graph} {a : ℕ} {d wait : List ℕ} (s : Still f (suc a) d wait) where
+module _ {f : Graph} {a : ℕ} {d wait : List ℕ} (s : Settled f (suc a) d wait) where
   lower : Walked (graphNetwork f) a (λ v. getD d v 0)
   lower = held-lower (graphNetwork f) a (λ v. getD d v 0) (s .held)
 
@@ -268,8 +267,8 @@ module _ {f : Graph} {a : ℕ} {d wait : List ℕ} (s : Still f (suc a) d wait) 
           fits = omega (arith, low-less y t (set d t y) (omega (arith, t-in, length-set d t y)) (omega (arith, now)));
           pile = pile-t;
           going = λ z. absurd (omega arith);
-          marked = λ c x z. let m = s .marked c x z in absurd (omega (arith, m .some, m .label, zero-at x));
-          why = λ j b q. ⊎-elim (λ i. piled 0 (omega arith) (sym i)) (λ ne. quiet (omega (arith, other (toAt (f .arcs) j) ne, zero-at (toAt (f .arcs) j)))) (equal (toAt (f .arcs) j) t);
+          marked = λ c x pos z. let m = s .marked c x pos z in absurd (omega (arith, m .some, m .label, zero-at x));
+          why = λ j b q. ⊎-elim (λ i. piled 0 (omega arith) (sym i)) (λ ne. relaxed (omega (arith, other (toAt (f .arcs) j) ne, zero-at (toAt (f .arcs) j)))) (equal (toAt (f .arcs) j) t);
         }
 
   -- the node w that enters, the only one of its class 1 position
@@ -277,12 +276,12 @@ module _ {f : Graph} {a : ℕ} {d wait : List ℕ} (s : Still f (suc a) d wait) 
     enters : w < length d
     enters = omega (arith, node, s .long)
 
-    by : (j : ℕ) → j < arcCount (f .arcs) → a < getD (f .entry) (toAt (f .arcs) j) 0 → Quiet f d j ⊎ (w ≡ toAt (f .arcs) j)
+    by : (j : ℕ) → j < length (f .arcs) → a < getD (f .entry) (toAt (f .arcs) j) 0 → Relaxed f d j ⊎ (w ≡ toAt (f .arcs) j)
     by j b e =
-        ⊎-elim (λ le. inr (alone (toAt (f .arcs) j) (s .laid .ends (arcSize * j + 1) (omega arith)) (omega arith))) (λ lt. inl (s .calm j b lt)) (order (getD (f .entry) (toAt (f .arcs) j) 0) (suc a))
+        ⊎-elim (λ le. inr (alone (toAt (f .arcs) j) (s .laid .ends j (omega arith) .1) (omega arith))) (λ lt. inl (s .relaxed j b lt)) (order (getD (f .entry) (toAt (f .arcs) j) 0) (suc a))
 
     -- its label is not above that of s
-    pub skipped : getD d w 0 ≤ getD d (f .source) 0 → Still f a d wait
+    pub skipped : getD d w 0 ≤ getD d (f .source) 0 → Settled f a d wait
     skipped k =
         record {
           laid = s .laid;
@@ -293,7 +292,7 @@ module _ {f : Graph} {a : ℕ} {d wait : List ℕ} (s : Still f (suc a) d wait) 
           at-t = λ _. s .at-t h;
           clear = λ b. absurd (omega arith);
           marked = s .marked;
-          calm = λ j b e. ⊎-elim (λ q. q) (λ i. omega (arith, ap (λ x. getD d x 0) i)) (by j b e);
+          relaxed = λ j b e. ⊎-elim (λ q. q) (λ i. omega (arith, ap (λ x. getD d x 0) i)) (by j b e);
         }
 
     pile-w : (k : ℕ) → k < 1 → Ripe f a (getD d w 0) d (getD (w ∷ []) k 0)
@@ -317,8 +316,26 @@ module _ {f : Graph} {a : ℕ} {d wait : List ℕ} (s : Still f (suc a) d wait) 
           pile = pile-w;
           going = λ z. absurd (omega arith);
           marked = s .marked;
-          why = λ j b e. ⊎-elim (λ q. quiet q) (λ i. piled 0 (omega arith) i) (by j b e);
+          why = λ j b e. ⊎-elim (λ q. relaxed q) (λ i. piled 0 (omega arith) i) (by j b e);
         }
 
 pub unset : (stack : List ℕ) (v : ℕ) {d wait d₁ stack₁ wait₁ : List ℕ} → Lengths d (set stack 0 v) wait d₁ stack₁ wait₁ → Lengths d stack wait d₁ stack₁ wait₁
 unset stack v x = record { labels = x .labels; pile = x .pile ∙ length-set stack 0 v; levels = x .levels }
+
+-- the same with another stack of that length
+pub restack : {f : Graph} {capacities links : List ℕ} {at : Step} {d stack wait : List ℕ} (v : ℕ) → Floodable f capacities links at d stack wait → Floodable f capacities links at d (set stack 0 v) wait
+restack {stack = stack} v b = record { lent = b .lent; source = b .source; work = b .work; some = b .some; begun = b .begun; room = omega (arith, b .room, length-set stack 0 v) }
+
+-- a node is popped: `spread` may go on from it
+pub popped : {f : Graph} {capacities links : List ℕ} (at : Step) {d₀ stack₀ wait₀ : List ℕ} → Floodable f capacities links at d₀ stack₀ wait₀
+    → {e stack₁ wait₁ d stack wait : List ℕ} (top : ℕ) → Draining f capacities links (at .x .0 - 1) (at .level .0) e stack₁ wait₁ d stack wait top → 0 < top
+    → Ready f capacities links (moved at (at .x .0) (at .level .0) (getD stack (top - 1) 0) (top - 1)) d stack wait
+popped at b {stack = stack} top n h =
+    let p = pop (n .lent .chains) (n .lent .long) (n .work) (top - 1) (omega arith) (getD stack (top - 1) 0) refl in
+    record { lent = n .lent; work = p .1; some = b .some; node = p .0; room = n .room }
+
+-- a level is next: `drain` may go on from its node
+pub leveled : {f : Graph} {capacities links : List ℕ} (at : Step) {d₀ stack₀ wait₀ : List ℕ} → Floodable f capacities links at d₀ stack₀ wait₀
+    → {e stack₁ wait₁ d stack wait : List ℕ} (l v : ℕ) → Flooding f capacities links (at .x .0 - 1) e stack₁ wait₁ d stack wait l v
+    → Floodable f capacities links (moved at (at .x .0) l v 0) d stack wait
+leveled at b l v n = record { lent = n .lent; source = b .source; work = n .work; some = b .some; begun = b .begun; room = n .room }

@@ -1,4 +1,4 @@
--- Document 01's limits (its section "The study file"), and the sizes of the parts of a study file.
+-- The limits of a study (document 01, "The study file"; 02, S-4), and the sizes of the parts of a study file.
 use mathlib.Core.List.{List}
 use Prim.Native.Nat.{ℕ, _+_, _*_, _/_}
 use lib.ListN.{length}
@@ -10,14 +10,18 @@ minNodes = 2
 abbrev pub maxNodes : ℕ
 maxNodes = 160
 
--- A, its arcs, and the bytes of each: from, to
+-- A, its arc entries, and the bytes of each: from, to, kind
 abbrev pub maxArcs : ℕ
 maxArcs = 1024
 
 abbrev pub arcSize : ℕ
-arcSize = 2
+arcSize = 3
 
--- how many arcs these bytes are
+-- kinds are 0 to 5
+abbrev pub maxKind : ℕ
+maxKind = 5
+
+-- how many entries these bytes are
 abbrev pub arcCount : List ℕ → ℕ
 arcCount arcs = length arcs / arcSize
 
@@ -25,7 +29,7 @@ arcCount arcs = length arcs / arcSize
 abbrev pub maxRounds : ℕ
 maxRounds = 100000
 
--- n1 and n2, the nodes of a class; and the last position, which stands for no node of it
+-- n1 and n2, the members of a class, nodes and arcs; and the last position, which stands for no member of it
 abbrev pub maxClass : ℕ
 maxClass = 64
 

@@ -13,11 +13,11 @@ use Rattle.front.specs.Pair.{pairOf, dominates, holdsAt}
 use Rattle.front.specs.Front.{holds, Within, AllWithin, AtMost}
 use Rattle.front.proofs.Pairs.{holds-is}
 use Rattle.front.proofs.Fronts.{front-are, front-holds, under-front}
-use Rattle.orders.specs.Order.{order1, order2, position}
+use Rattle.orders.specs.Order.{count, placeInClass, order1, order2, position}
 use Rattle.orders.proofs.Places.{position-first}
-use Rattle.parts.specs.Study.{Arc, Study}
+use Rattle.parts.specs.Study.{Arc, Study, studyArcs, studyElements, arcElement}
 use Rattle.network.specs.Walk.{Network, Walk, RouteFrom, visits, pairOn, routes, routePairs}
-use Rattle.network.specs.Round.{studySize1, studySize2, roundAt, works, RoundHolds, capacity, roundNetwork, roundFront}
+use Rattle.network.specs.Round.{studySize1, studySize2, roundAt, works, elementWorks, RoundHolds, capacity, elementCapacity, roundNetwork, roundFront}
 use Rattle.network.proofs.Routes.{routes-are, straighten}
 
 -- ---- the pairs of routes, and where they hold
@@ -94,20 +94,30 @@ module _ (net : Network) (n1 n2 : ℕ) (node-in : (v : ℕ) → Within n1 n2 (ne
   pub pairs-within : AllWithin n1 n2 (routePairs net)
   pairs-within p m = let x = pairs-out net p m in subst (Within n1 n2) (x .2) (walk-within (net .source) (x .0))
 
+-- ---- an element's capacity is in range, and holds where the element works
+pub element-within : (classes round : List ℕ) → length round ≤ count 1 classes + count 2 classes
+    → (e : ℕ) → Within (count 1 classes) (count 2 classes) (elementCapacity classes round e)
+element-within classes round long e =
+    capacity-within (count 1 classes) (count 2 classes) (getD classes e 0) (order1 classes round) (order2 classes round) (placeInClass classes e)
+    (omega (arith, length-take (count 1 classes) round)) (omega (arith, length-drop (count 1 classes) round))
+
+pub element-holds : (classes round : List ℕ) (e a b : ℕ) → a ≤ count 1 classes → b ≤ count 2 classes
+    → T (holdsAt (elementCapacity classes round e) a b) ↔ T (elementWorks classes round a b e)
+element-holds classes round e a b h k =
+    capacity-holds (count 1 classes) (count 2 classes) (getD classes e 0) (order1 classes round) (order2 classes round) (placeInClass classes e) a b h k
+
 -- ---- a round
 module _ (st : Study) (r : ℕ) (long : length (roundAt st r) ≤ studySize1 st + studySize2 st) where
-  inside : AllWithin (studySize1 st) (studySize2 st) (routePairs (roundNetwork st r))
+  pub inside : AllWithin (studySize1 st) (studySize2 st) (routePairs (roundNetwork st r))
   inside =
-      pairs-within (roundNetwork st r) (studySize1 st) (studySize2 st)
-      (λ v. capacity-within (studySize1 st) (studySize2 st) (getD (st .classes) v 0) (order1 (st .classes) (roundAt st r)) (order2 (st .classes) (roundAt st r)) v
-      (omega (arith, length-take (studySize1 st) (roundAt st r))) (omega (arith, length-drop (studySize1 st) (roundAt st r))))
-      (λ i. omega arith)
+      let within = element-within (studyElements st) (roundAt st r) long in
+      pairs-within (roundNetwork st r) (studySize1 st) (studySize2 st) within (λ i. within _)
 
   -- THE FRONT is exactly the pairs of routes that no route's pair dominates
   pub front-routes : (p : Pair)
       → (p ∈ roundFront st r)
-      ↔ (((ks : List Arc) × RouteFrom (st .arcs) (st .source) (st .target) ks × (pairOn (roundNetwork st r) (st .source) ks ≡ p))
-      × ((ks : List Arc) → RouteFrom (st .arcs) (st .source) (st .target) ks → T (dominates (pairOn (roundNetwork st r) (st .source) ks) p) → ⊥))
+      ↔ (((ks : List Arc) × RouteFrom (studyArcs st) (st .source) (st .target) ks × (pairOn (roundNetwork st r) (st .source) ks ≡ p))
+      × ((ks : List Arc) → RouteFrom (studyArcs st) (st .source) (st .target) ks → T (dominates (pairOn (roundNetwork st r) (st .source) ks) p) → ⊥))
   front-routes p =
       let n = roundNetwork st r in
       let f = front-are (studySize1 st) (studySize2 st) (routePairs n) inside p in (
@@ -116,27 +126,22 @@ module _ (st : Study) (r : ℕ) (long : length (roundAt st r) ≤ studySize1 st 
       )
 
   -- every route has a pair in the front at least as large in both numbers
-  pub route-under : (ks : List Arc) → RouteFrom (st .arcs) (st .source) (st .target) ks → (q : Pair) × (q ∈ roundFront st r) × AtMost (pairOn (roundNetwork st r) (st .source) ks) q
+  pub route-under : (ks : List Arc) → RouteFrom (studyArcs st) (st .source) (st .target) ks → (q : Pair) × (q ∈ roundFront st r) × AtMost (pairOn (roundNetwork st r) (st .source) ks) q
   route-under ks h = under-front (studySize1 st) (studySize2 st) (routePairs (roundNetwork st r)) inside (pairOn (roundNetwork st r) (st .source) ks) (pairs-in (roundNetwork st r) ks h)
 
-  -- the front holds exactly where direct removal finds the round joined
+  -- the front holds exactly where direct removal, of nodes and arcs, finds the round joined
   pub front-removal : (a b : ℕ) → a ≤ studySize1 st → b ≤ studySize2 st → T (holds (roundFront st r) a b) ↔ RoundHolds st r a b
   front-removal a b h k = (
     λ t.
         let n = roundNetwork st r in
         let j = pairs-hold n a b .0 (subst T (front-holds (studySize1 st) (studySize2 st) (routePairs n) inside a b) t) in
-        (j .0, j .1, λ v m. at v .0 (walk-holds n (st .source) (j .0) a b .0 (j .2) .0 v m)),
+        let w = walk-holds n (st .source) (j .0) a b .0 (j .2) in
+        (j .0, j .1, λ v m. at v .0 (w .0 v m), λ l m. at (arcElement st l) .0 (w .1 l m)),
     λ j.
         let n = roundNetwork st r in
         subst T (sym (front-holds (studySize1 st) (studySize2 st) (routePairs n) inside a b))
-        (pairs-hold n a b .1 (
-          j .0,
-          j .1,
-          walk-holds n (st .source) (j .0) a b .1 (λ v m. at v .1 (j .2 v m), λ l m. holds-is (pairOf (studySize1 st + 1) (studySize2 st + 1)) a b .1 (omega arith, omega arith)),
-        )),
+        (pairs-hold n a b .1 (j .0, j .1, walk-holds n (st .source) (j .0) a b .1 (λ v m. at v .1 (j .2 v m), λ l m. at (arcElement st l) .1 (j .3 l m)))),
   )
     where
-      at : (v : ℕ)
-          → T (holdsAt (roundNetwork st r .node v) a b)
-          ↔ T (works (getD (st .classes) v 0) (order1 (st .classes) (roundAt st r)) (order2 (st .classes) (roundAt st r)) a b v)
-      at v = capacity-holds (studySize1 st) (studySize2 st) (getD (st .classes) v 0) (order1 (st .classes) (roundAt st r)) (order2 (st .classes) (roundAt st r)) v a b h k
+      at : (e : ℕ) → T (holdsAt (elementCapacity (studyElements st) (roundAt st r) e) a b) ↔ T (elementWorks (studyElements st) (roundAt st r) a b e)
+      at e = element-holds (studyElements st) (roundAt st r) e a b h k

@@ -1,12 +1,14 @@
 -- HOW THE SEARCH COMES TO A ROUND'S FRONT: from the study to what the code walks, and the lemma that makes each step
 --   the study, round r        where it holds, told by direct removal: `RoundHolds` (Round.antt)
 --     | `front-removal`, `front-routes`   the network's front holds there, and is the undominated pairs of its routes (proofs/Rounds.antt)
---   `roundNetwork`            a capacity for each node, by its class and its position (Round.antt)
---     | `round-pairs`         the same pairs by the orders alone (search/proofs/Rounds.antt)
---   `orderNetwork`            a node that stands in neither order is past the last of both (search/specs/Steps.antt)
+--   `roundNetwork`            a capacity for each node, and for the arc at each place (Round.antt)
+--     | `round-front`         an arc that may fail has become a node in its middle: the same front (split/proofs/Rounds.antt)
+--   `splitRound`              a capacity for each element; arcs never fail (split/specs/Steps.antt)
+--     | `search-front`        the same pairs by the orders of elements alone (split/proofs/Orders.antt)
+--   `orderNetwork`            an element that stands in neither order is past the last of both (split/specs/Steps.antt)
 --     | `pairs-are`           the same pairs from arrays of positions (search/proofs/Rounds.antt)
---   `graphNetwork`            of the `Graph` that the search walks: arc bytes and two arrays (relax/specs/Steps.antt)
---     | `at-rest`, `all-collected`        labels say where it holds, the sweep collects its front (labels, sweep/proofs)
+--   `graphNetwork`            of the `Graph` that the search walks: arcs in chains and an array of capacities (relax/specs/Steps.antt)
+--     | `settled-hold`, `all-collected`   labels say where it holds, the sweep collects its front (labels, sweep/proofs)
 --   the record                `searchBytes` (search/specs/Search.antt)
 -- Walks and routes (document 01, "Positions, routes and the search"): chains of arcs, the pair of a route, and all routes by enumeration.
 use mathlib.Core.Path.{_≡_}

@@ -1,2 +1,5 @@
 pub mod Scans
+pub mod Arcs
+pub mod Blocks
 pub mod Limits
+pub mod Rounds

@@ -1,12 +1,12 @@
--- The tests of a study's parts (document 01, "Numbers from the input"): 2, 3, 5, 6 and 8, on numbers and bytes, for opening and writer.
+-- The tests of a study's parts (document 01, "Numbers from the input"; 02, S-4): 2, 3, 5, 8, 32 and 6, on numbers and bytes, for opening and writer.
 use mathlib.Core.Bool.{Bool, _||_}
 use mathlib.Core.List.{List, [], _∷_}
 use Prim.Native.Nat.{ℕ}
 use lib.Dec.{eqb, leb, ltb}
-use Rattle.limits.specs.Limits.{minNodes, maxNodes, maxArcs, maxRounds, maxClass}
+use Rattle.limits.specs.Limits.{minNodes, maxNodes, maxArcs, maxKind, maxRounds, maxClass}
 use Rattle.laws.specs.Members.{any}
 use Rattle.orders.specs.Order.{count}
-use Rattle.parts.specs.Study.{Arc, arcsFrom}
+use Rattle.parts.specs.Study.{Entry, entriesFrom, elements}
 
 -- 2 N, A or M out of limits
 abbrev pub badCounts : ℕ → ℕ → ℕ → Bool
@@ -20,17 +20,23 @@ badEnds N s t = leb N s || leb N t || eqb s t
 abbrev pub badClasses : List ℕ → Bool
 badClasses nodes = any (ltb 2) nodes
 
--- 6 a class size above 64
-abbrev pub badSizes : List ℕ → Bool
-badSizes nodes = ltb maxClass (count 1 nodes) || ltb maxClass (count 2 nodes)
-
 -- 8 an arc end not below N, or both ends equal
-abbrev pub badArc : ℕ → Arc → Bool
-badArc N a = leb N (a .from) || leb N (a .to) || eqb (a .from) (a .to)
+abbrev pub badArc : ℕ → ℕ → ℕ → Bool
+badArc N from to = leb N from || leb N to || eqb from to
 
-abbrev pub badArcs : ℕ → List ℕ → Bool
-badArcs N arcs = any (badArc N) (arcsFrom 0 arcs)
+abbrev pub badArcs : ℕ → List Entry → Bool
+badArcs N entries = any (λ x. badArc N (x .from) (x .to)) entries
 
--- the tests of nodes and arcs, in 01's order; source and target may be of any class, and 7 is not used again (02, S-1)
+-- 32 a kind above 5
+abbrev pub badKinds : List Entry → Bool
+badKinds entries = any (λ x. ltb maxKind (x .kind)) entries
+
+-- 6 a class size above 64, of the elements' classes
+abbrev pub badSizes : List ℕ → Bool
+badSizes classes = ltb maxClass (count 1 classes) || ltb maxClass (count 2 classes)
+
+-- the tests of nodes and arcs: 32 after 8 and before 6, which counts arcs too (02, S-4); source and target may be of any class, and 7 is not used again (S-1)
 abbrev pub partTests : ℕ → List ℕ → List ℕ → List (ℕ × Bool)
-partTests N nodes arcs = (5, badClasses nodes) ∷ (6, badSizes nodes) ∷ (8, badArcs N arcs) ∷ []
+partTests N nodes arcs =
+    let entries = entriesFrom arcs in
+    (5, badClasses nodes) ∷ (8, badArcs N entries) ∷ (32, badKinds entries) ∷ (6, badSizes (elements nodes entries)) ∷ []

@@ -17,6 +17,7 @@ pub data Vain : List ℕ → List ℕ → Type 0 where
   remove : (c : call.RemoveCall) (n : ℕ) → call.removeResult c ≡ refused n → Vain (call.removeLent c) (call.removeLeft c)
   weigh : (c : call.WeightsCall) (n : ℕ) → call.weightsResult c ≡ refused n → Vain (call.weightsLent c) (call.weightsLeft c)
   write : (c : call.WriteCall) (n : ℕ) → call.writeResult c ≡ refused n → Vain (call.writeLent c) (call.writeLeft c)
+  convert : (c : call.ConvertCall) (n : ℕ) → call.convertResult c ≡ refused n → Vain (call.convertLent c) (call.convertLeft c)
 
 -- A SLICE THROUGH CALLS IN VAIN, any number of them: it was s, each call was lent it as the one before left it, and now it is u
 pub data Through : List ℕ → List ℕ → Type 0 where

@@ -12,7 +12,7 @@ use Rattle.front.proofs.Pairs.{holds-is}
 use Rattle.parts.specs.Study.{Arc}
 use Rattle.network.specs.Walk.{Network, Walk, pairOn, routePairs}
 use Rattle.network.proofs.Rounds.{pairs-hold}
-use Rattle.relax.specs.Steps.{Good, Walked, In, Calm}
+use Rattle.relax.specs.Steps.{Good, Walked, In, AllRelaxed}
 
 -- a walk is worth at most its first node
 pub pair-first : (net : Network) (v : ℕ) (ks : List Arc) → pairOn net v ks .p2 .0 ≤ net .node v .p2 .0
@@ -24,20 +24,20 @@ module _ (net : Network) (a : ℕ) where
   walk-in v [] w h = (h, subst (λ u. a < net .node u .p1 .0) w h)
   walk-in v (k ∷ ks) w h = (omega arith, walk-in (k .to) ks (w .2) (omega arith) .1)
 
-  module _ (d : ℕ → ℕ) (so : Walked net a d) (c : Calm net a d) where
-    calm-high : In net a → (v : ℕ) (ks : List Arc) → Walk (net .arcs) v (net .target) ks → a < pairOn net v ks .p1 .0 → pairOn net v ks .p2 .0 ≤ max (d v) (d (net .source))
-    calm-high i v [] w h = omega (arith, subst (λ u. net .node u .p2 .0 ≤ d u) (sym w) (c .at-t i))
-    calm-high i v (k ∷ ks) w h =
+  module _ (d : ℕ → ℕ) (so : Walked net a d) (c : AllRelaxed net a d) where
+    relaxed-high : In net a → (v : ℕ) (ks : List Arc) → Walk (net .arcs) v (net .target) ks → a < pairOn net v ks .p1 .0 → pairOn net v ks .p2 .0 ≤ max (d v) (d (net .source))
+    relaxed-high i v [] w h = omega (arith, subst (λ u. net .node u .p2 .0 ≤ d u) (sym w) (c .at-t i))
+    relaxed-high i v (k ∷ ks) w h =
         let by : min (net .node v .p2 .0) (min (net .arc (k .place) .p2 .0) (d (k .to))) ≤ max (d v) (d (net .source)) =
         rw (← w .1) (c .by-arc i k (w .0) (walk-in (k .to) ks (w .2) (omega arith) .0)) in
-        omega (arith, by, calm-high i (k .to) ks (w .2) (omega arith))
+        omega (arith, by, relaxed-high i (k .to) ks (w .2) (omega arith))
 
-    pub calm-hold : (b : ℕ) → T (holds (routePairs net) a b) ↔ (b < d (net .source))
-    calm-hold b = (
+    pub relaxed-hold : (b : ℕ) → T (holds (routePairs net) a b) ↔ (b < d (net .source))
+    relaxed-hold b = (
       λ t.
           let j = pairs-hold net a b .0 t in
           let h = holds-is (pairOn net (net .source) (j .0)) a b .0 (j .2) in
-          omega (arith, calm-high (walk-in (net .source) (j .0) (j .1) (omega arith)) (net .source) (j .0) (j .1) (omega arith)),
+          omega (arith, relaxed-high (walk-in (net .source) (j .0) (j .1) (omega arith)) (net .source) (j .0) (j .1) (omega arith)),
       λ h.
           let j = so (net .source) (omega arith) in
           pairs-hold net a b .1 (j .0, j .1, holds-is (pairOn net (net .source) (j .0)) a b .1 (omega (arith, c .s-in (omega arith)), omega arith)),

@@ -1,4 +1,4 @@
--- Document 01's table of cases ("The sample ring and its neighbours"), by evaluation of the definitions that the contracts cite.
+-- Document 01's table of cases ("The sample ring and its neighbours") in the form of 02, S-4, by evaluation of the definitions that the contracts cite.
 use mathlib.Core.Path.{_≡_, refl}
 use mathlib.Core.Bool.{true, false, true≢false}
 use mathlib.Core.List.{List, [], _∷_, _++_}
@@ -11,6 +11,7 @@ use Rattle.study.specs.Calls.{badOrders, openAnswer, checkAnswer, lookupPart}
 use Rattle.writer.specs.Writer.{Given, given, studyBytes, writeAnswer, writeOut}
 use Rattle.record.specs.Record.{isRecord, recordHolds}
 use Rattle.search.specs.Search.{searchAnswer, searchOut}
+use Rattle.convert.specs.Convert.{convertAnswer, convertOut}
 use Rattle.chance.specs.Chance.{sumE, scaleD}
 use Rattle.soundness.specs.Tally.{cell, stateAnswer}
 use Rattle.tally.specs.Calls.{newOut, addAnswer, addOut}
@@ -20,36 +21,43 @@ use Rattle.lines.specs.Text.{ascii, decimal}
 use Rattle.lines.specs.Report.{reportLines, reportText, SentOf}
 use Rattle.compose.specs.Compose.{seriesAnswer, seriesOut, parallelAnswer, parallelOut}
 
--- "Nodes 0 to 5 of classes 0, 0, 1, 1, 2, 2; s 0, t 1; arcs 0 2, 2 4, 4 1, 0 3, 3 1, 0 5, 5 1", with one round
+-- "Nodes 0 to 5 of classes 0, 0, 1, 1, 2, 2; s 0, t 1; arcs 0 2, 2 4, 4 1, 0 3, 3 1, 0 5, 5 1", of kind 0, with one round
 abbrev pub ringNodes : List ℕ
 ringNodes = 0 ∷ 0 ∷ 1 ∷ 1 ∷ 2 ∷ 2 ∷ []
 
 abbrev pub ringArcs : List ℕ
-ringArcs = 0 ∷ 2 ∷ 2 ∷ 4 ∷ 4 ∷ 1 ∷ 0 ∷ 3 ∷ 3 ∷ 1 ∷ 0 ∷ 5 ∷ 5 ∷ 1 ∷ []
+ringArcs = 0 ∷ 2 ∷ 0 ∷ 2 ∷ 4 ∷ 0 ∷ 4 ∷ 1 ∷ 0 ∷ 0 ∷ 3 ∷ 0 ∷ 3 ∷ 1 ∷ 0 ∷ 0 ∷ 5 ∷ 0 ∷ 5 ∷ 1 ∷ 0 ∷ []
 
 abbrev pub ringWith : List ℕ → Given
 ringWith round = given ringNodes ringArcs round 0 1 1
 
--- its study file: nodes, arcs, the round 3 2 5 4, then the eight numbers of the trailer
+-- its study file: nodes, arcs, the round 1 0 1 0 (each class's second member fails first), then the eight numbers of the trailer
 abbrev pub ringFile : List ℕ
 ringFile =
+    0 ∷ 0 ∷ 1 ∷ 1 ∷ 2 ∷ 2 ∷ 0 ∷ 2 ∷ 0 ∷ 2 ∷ 4 ∷ 0 ∷ 4 ∷ 1 ∷ 0 ∷ 0 ∷ 3 ∷ 0 ∷ 3 ∷ 1 ∷ 0 ∷ 0 ∷ 5 ∷ 0 ∷ 5 ∷ 1 ∷ 0 ∷ 1 ∷ 0 ∷ 1 ∷ 0
+    ∷ 6 ∷ 0 ∷ 0 ∷ 0 ∷ 7 ∷ 0 ∷ 0 ∷ 0 ∷ 1 ∷ 0 ∷ 0 ∷ 0 ∷ 0 ∷ 0 ∷ 0 ∷ 0 ∷ 1 ∷ 0 ∷ 0 ∷ 0
+    ∷ 31 ∷ 0 ∷ 0 ∷ 0 ∷ 25 ∷ 0 ∷ 0 ∷ 0 ∷ 4 ∷ 0 ∷ 0 ∷ 0 ∷ []
+
+-- its old study file (01's R1): two bytes an arc, the round 3 2 5 4 by node numbers
+abbrev pub oldRingFile : List ℕ
+oldRingFile =
     0 ∷ 0 ∷ 1 ∷ 1 ∷ 2 ∷ 2 ∷ 0 ∷ 2 ∷ 2 ∷ 4 ∷ 4 ∷ 1 ∷ 0 ∷ 3 ∷ 3 ∷ 1 ∷ 0 ∷ 5 ∷ 5 ∷ 1 ∷ 3 ∷ 2 ∷ 5 ∷ 4
     ∷ 6 ∷ 0 ∷ 0 ∷ 0 ∷ 7 ∷ 0 ∷ 0 ∷ 0 ∷ 1 ∷ 0 ∷ 0 ∷ 0 ∷ 0 ∷ 0 ∷ 0 ∷ 0 ∷ 1 ∷ 0 ∷ 0 ∷ 0
     ∷ 24 ∷ 0 ∷ 0 ∷ 0 ∷ 18 ∷ 0 ∷ 0 ∷ 0 ∷ 4 ∷ 0 ∷ 0 ∷ 0 ∷ []
 
 -- the ring without arcs, and two nodes of class 0 with an arc between them
 abbrev pub noArcs : List ℕ
-noArcs = studyBytes (given ringNodes [] (3 ∷ 2 ∷ 5 ∷ 4 ∷ []) 0 1 1)
+noArcs = studyBytes (given ringNodes [] (1 ∷ 0 ∷ 1 ∷ 0 ∷ []) 0 1 1)
 
 abbrev pub oneArc : List ℕ
-oneArc = studyBytes (given (0 ∷ 0 ∷ []) (0 ∷ 1 ∷ []) [] 0 1 1)
+oneArc = studyBytes (given (0 ∷ 0 ∷ []) (0 ∷ 1 ∷ 0 ∷ []) [] 0 1 1)
 
 -- the ring with three rounds, of which the second has an order that is none; two nodes and no round
 abbrev pub badSecond : Given
-badSecond = given ringNodes ringArcs (3 ∷ 2 ∷ 5 ∷ 4 ∷ 3 ∷ 3 ∷ 5 ∷ 4 ∷ 2 ∷ 3 ∷ 4 ∷ 5 ∷ []) 0 1 3
+badSecond = given ringNodes ringArcs (1 ∷ 0 ∷ 1 ∷ 0 ∷ 1 ∷ 1 ∷ 1 ∷ 0 ∷ 0 ∷ 1 ∷ 0 ∷ 1 ∷ []) 0 1 3
 
 abbrev pub noRounds : List ℕ
-noRounds = studyBytes (given (0 ∷ 0 ∷ []) (0 ∷ 1 ∷ []) [] 0 1 0)
+noRounds = studyBytes (given (0 ∷ 0 ∷ []) (0 ∷ 1 ∷ 0 ∷ []) [] 0 1 0)
 
 -- the ring's record, the record that R3 and R4 join it with, and an empty front
 abbrev pub ring : List ℕ
@@ -73,21 +81,26 @@ abbrev pub eight : List ℕ
 eight = 9 ∷ 9 ∷ 9 ∷ 9 ∷ 9 ∷ 9 ∷ 9 ∷ 9 ∷ []
 
 pub record Table : Type 0 where
-  -- R1 written: 56 bytes, dN 24, dA 18, dM 4
-  pub r1-answer : writeAnswer (ringWith (3 ∷ 2 ∷ 5 ∷ 4 ∷ [])) 56 ≡ success (56 ∷ [])
-  -- in a slice of 60 the four bytes behind them stay
-  pub r1-out : writeOut (ringWith (3 ∷ 2 ∷ 5 ∷ 4 ∷ [])) (replicate 60 9) ≡ ringFile ++ 9 ∷ 9 ∷ 9 ∷ 9 ∷ []
-  pub r1-bytes : studyBytes (ringWith (3 ∷ 2 ∷ 5 ∷ 4 ∷ [])) ≡ ringFile
-  pub r1-dn : trailer ringFile .dn ≡ 24
-  pub r1-da : trailer ringFile .da ≡ 18
+  -- R1 written: 63 bytes, dN 31, dA 25, dM 4
+  pub r1-answer : writeAnswer (ringWith (1 ∷ 0 ∷ 1 ∷ 0 ∷ [])) 63 ≡ success (63 ∷ [])
+  -- in a slice of 67 the four bytes behind them stay
+  pub r1-out : writeOut (ringWith (1 ∷ 0 ∷ 1 ∷ 0 ∷ [])) (replicate 67 9) ≡ ringFile ++ 9 ∷ 9 ∷ 9 ∷ 9 ∷ []
+  pub r1-bytes : studyBytes (ringWith (1 ∷ 0 ∷ 1 ∷ 0 ∷ [])) ≡ ringFile
+  pub r1-dn : trailer ringFile .dn ≡ 31
+  pub r1-da : trailer ringFile .da ≡ 25
   pub r1-dm : trailer ringFile .dm ≡ 4
   -- and read back: N 6, A 7, M 1, s 0, t 1, n1 2, n2 2; its one round
   pub r1-opens : openAnswer ringFile ≡ success (6 ∷ 7 ∷ 1 ∷ 0 ∷ 1 ∷ 2 ∷ 2 ∷ [])
-  pub r1-round : lookupPart ringFile 0 ≡ 3 ∷ 2 ∷ 5 ∷ 4 ∷ []
+  pub r1-round : lookupPart ringFile 0 ≡ 1 ∷ 0 ∷ 1 ∷ 0 ∷ []
   pub r1-orders : badOrders ringFile 0 ≡ false
   pub r1-ten : checkAnswer ringFile 1 ≡ refused 10
-  pub r1-short : writeAnswer (ringWith (3 ∷ 2 ∷ 5 ∷ 4 ∷ [])) 55 ≡ refused 15
-  pub r1-stays : writeOut (ringWith (3 ∷ 2 ∷ 5 ∷ 4 ∷ [])) (replicate 55 9) ≡ replicate 55 9
+  pub r1-short : writeAnswer (ringWith (1 ∷ 0 ∷ 1 ∷ 0 ∷ [])) 62 ≡ refused 15
+  pub r1-stays : writeOut (ringWith (1 ∷ 0 ∷ 1 ∷ 0 ∷ [])) (replicate 62 9) ≡ replicate 62 9
+  -- the old R1 through the converter: the same 63 bytes
+  pub r1-converts : convertAnswer oldRingFile 63 ≡ success (63 ∷ [])
+  pub r1-converted : convertOut oldRingFile (replicate 67 9) ≡ ringFile ++ 9 ∷ 9 ∷ 9 ∷ 9 ∷ []
+  pub r1-converts-short : convertAnswer oldRingFile 62 ≡ refused 15
+  pub r1-converts-stays : convertOut oldRingFile (replicate 62 9) ≡ replicate 62 9
   -- R2 front record: 2 2 3 3 1 2 2 1 3. It holds at (2, 0), not at (2, 1)
   pub r2-answer : searchAnswer ringFile 0 10 ≡ success (9 ∷ [])
   pub r2-out : searchOut ringFile 0 ten ≡ 2 ∷ 2 ∷ 3 ∷ 3 ∷ 1 ∷ 2 ∷ 2 ∷ 1 ∷ 3 ∷ 9 ∷ []
@@ -127,9 +140,9 @@ pub record Table : Type 0 where
   -- "an empty front prints none"; no rounds, no fronts
   pub r8-none : reportText noArcs ≡ ascii "sizes 2 2 rounds 1\nfront 0: none\ncount 0: 0 0 0\ncount 1: 0 0 0\ncount 2: 0 0 0\n"
   pub r8-no-rounds : reportText noRounds ≡ ascii "sizes 0 0 rounds 0\ncount 0: 0\n"
-  -- R9 round 3 3 5 4: 11
-  pub r9 : writeAnswer (ringWith (3 ∷ 3 ∷ 5 ∷ 4 ∷ [])) 56 ≡ refused 11
-  pub r9-search : searchAnswer (studyBytes (ringWith (3 ∷ 3 ∷ 5 ∷ 4 ∷ []))) 0 10 ≡ refused 11
+  -- R9 round 1 1 1 0: 11
+  pub r9 : writeAnswer (ringWith (1 ∷ 1 ∷ 1 ∷ 0 ∷ [])) 63 ≡ refused 11
+  pub r9-search : searchAnswer (studyBytes (ringWith (1 ∷ 1 ∷ 1 ∷ 0 ∷ []))) 0 10 ≡ refused 11
   -- R10 no arcs: record 2 2 0
   pub r10-answer : searchAnswer noArcs 0 10 ≡ success (3 ∷ [])
   pub r10 : searchOut noArcs 0 ten ≡ 2 ∷ 2 ∷ 0 ∷ 9 ∷ 9 ∷ 9 ∷ 9 ∷ 9 ∷ 9 ∷ 9 ∷ []
@@ -180,6 +193,10 @@ table =
       r1-ten = refl;
       r1-short = refl;
       r1-stays = refl;
+      r1-converts = refl;
+      r1-converted = refl;
+      r1-converts-short = refl;
+      r1-converts-stays = refl;
       r2-answer = refl;
       r2-out = refl;
       r2-ten = refl;

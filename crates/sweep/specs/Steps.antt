@@ -2,21 +2,21 @@
 use mathlib.Core.Path.{_≡_}
 use mathlib.Core.Bool.{Bool, _&&_}
 use mathlib.Core.List.{List}
-use Prim.Native.Nat.{ℕ, suc, _-_, _≤_, _<_}
+use Prim.Native.Nat.{ℕ, suc, _-_, _/_, _≤_, _<_}
 use lib.Dec.{ltb}
 use lib.ListN.{length, getD}
-use Rattle.limits.specs.Limits.{arcCount}
 use Rattle.front.specs.Front.{holds, AllWithin}
 use Rattle.network.specs.Walk.{routePairs}
+use Rattle.chains.specs.Steps.{maxElements}
 use Rattle.relax.specs.declared.Step.{Step}
-use Rattle.relax.specs.Steps.{Graph, graphOf, graphNetwork, Laid, Chains, start}
+use Rattle.relax.specs.Steps.{Graph, graphNetwork, Laid, Lent, start}
 
 -- where the network holds, and what of it lies below x failures of class 1
 abbrev pub whole : Graph → ℕ → ℕ → Bool
 whole f a b = holds (routePairs (graphNetwork f)) a b
 
-abbrev pub below : Graph → ℕ → ℕ → ℕ → Bool
-below f x a b = ltb a x && whole f a b
+abbrev pub heldBelow : Graph → ℕ → ℕ → ℕ → Bool
+heldBelow f x a b = ltb a x && whole f a b
 
 -- the class 1 order: at each place the one node of that position
 pub record ByOrder (f : Graph) (order : List ℕ) : Type 0 where
@@ -29,26 +29,37 @@ pub record ByOrder (f : Graph) (order : List ℕ) : Type 0 where
   -- and no other node's
   pub alone : (k v : ℕ) → k < f .n1 → v < length (f .entry) → getD (f .entry) v 0 ≡ suc k → getD order k 0 ≡ v
 
--- what the sweep is given: a network as it is laid out, its chains, the class 1 order, and the first step
-pub record Sweepable (arcs entry cap first more order : List ℕ) (begin : Step) : Type 0 where
+-- what the sweep is given: a network as the slices hold it, the class 1 order, and the first step
+pub record Sweepable (f : Graph) (capacities links order : List ℕ) (n2 : ℕ) (begin : Step) : Type 0 where
   -- nodes, arcs and capacities
-  pub laid : Laid (graphOf arcs entry cap begin)
+  pub laid : Laid f
+  -- as the slices hold them
+  pub lent : Lent f capacities links
   -- the class 1 order
-  pub by-order : ByOrder (graphOf arcs entry cap begin) order
-  -- the arcs into each node
-  pub chains : Chains arcs first more (arcCount arcs)
-  -- a head for every node
-  pub heads : length entry ≤ length first
-  -- a link for every arc
-  pub links : arcCount arcs ≤ length more
+  pub by-order : ByOrder f order
+  -- the class sizes
+  pub sizes : (length order ≡ f .n1) × (n2 ≡ f .n2)
   -- no route's pair is out of range
-  pub within : AllWithin (begin .n1) (begin .n2) (routePairs (graphNetwork (graphOf arcs entry cap begin)))
+  pub within : AllWithin (f .n1) (f .n2) (routePairs (graphNetwork f))
   -- both ends are in at x, and at no larger one
-  pub begins : begin .x .0 ≡ start (graphOf arcs entry cap begin)
+  pub begins : begin .x .0 ≡ start f
   -- which is a position
   pub some : 0 < begin .x .0
+  -- its source
+  pub source : begin .source ≡ f .source
   -- the target enters first
-  pub enters : begin .target ≡ begin .node
+  pub enters : f .target ≡ begin .node
+
+-- the labels and the stack that it is lent: no label yet, and room for every node
+pub record Blank (capacities label stack : List ℕ) : Type 0 where
+  -- a label for every node
+  pub long : length capacities / 2 ≤ length label
+  -- no more labels than nodes can be
+  pub short : length label ≤ maxElements
+  -- the stack holds every node
+  pub room : length label ≤ length stack
+  -- no node has a label
+  pub none : (v : ℕ) → getD label v 0 ≡ 0
 
 -- the next node to enter: the largest place up to z whose node has a label above `last`; 0 where there is none
 pub record NextIn (order label : List ℕ) (z last r : ℕ) : Type 0 where

@@ -3,10 +3,10 @@ use buffer::LONGEST;
 use front::Pair;
 use front::Pos1;
 use front::Pos2;
-use limits::MAX_NODES;
 use limits::MAX_POSITION;
 use relax::Step;
 use slices::wide;
+use slices::wide_two;
 ghost use mathlib.Core.Path.{_≡_};
 ghost use mathlib.Core.List.{[], _∷_, _++_};
 ghost use Prim.Native.Nat.{ℕ, _≤_, _<_};
@@ -14,8 +14,8 @@ ghost use lib.ListN.{length, getD};
 ghost use Rattle.record.specs.Record.{recordSize1, recordSize2, listed, frontBytes, longest};
 ghost use Rattle.buffer.specs.Steps.{recordIn, Puttable};
 ghost use Rattle.network.specs.Walk.{routePairs};
-ghost use Rattle.relax.specs.Steps.{graphOf, graphNetwork};
-ghost use Rattle.sweep.specs.Steps.{Sweepable, NextIn};
+ghost use Rattle.relax.specs.Steps.{Graph, graphNetwork};
+ghost use Rattle.sweep.specs.Steps.{Sweepable, Blank, NextIn};
 
 // Puts the pair, where its p2 is above the last.
 fn collect(found: &mut [u8; LONGEST], p: Pair, last: Pos2)
@@ -32,13 +32,13 @@ fn collect(found: &mut [u8; LONGEST], p: Pair, last: Pos2)
 }
 
 // The next node to enter: the largest place up to z whose node has a label above `last`, or 0.
-fn next_in(order: &[u8], label: &[u8], z: Pos1, last: Pos2) -> Pos1
+fn next_in(order: &[u16], label: &[u8], z: Pos1, last: Pos2) -> Pos1
     requires { ⌜ (z .0 ≤ length (now order)) × ((k : ℕ) → k < z .0 → getD (now order) k 0 < length (now label)) ⌝ }
     ensures { λ r. ⌜ NextIn (now (order .entry)) (now (label .entry)) (z .0) (last .0) (r .0) ⌝ }
 {
     let mut r = z.0;
     while 0 < r {
-        let v = wide(order[wide(r) - 1]);
+        let v = wide_two(order[wide(r) - 1]);
         if Pos2(label[v]).above(last) {
             return Pos1(r);
         }
@@ -48,47 +48,36 @@ fn next_in(order: &[u8], label: &[u8], z: Pos1, last: Pos2) -> Pos1
 }
 
 // The front record of a network, in a buffer. `begin` is the first step: x at the start, the target
-// entering with its capacity.
+// entering with its capacity. Labels and stack are the caller's, as long as its network needs.
 pub fn sweep(
-    arcs: &[u8],
-    entry: &[u8],
-    cap: &[u8],
-    first: &[u16],
-    more: &[u16],
-    order: &[u8],
+    capacities: &[u8],
+    links: &[u16],
+    order: &[u16],
+    n2: u8,
     begin: Step,
+    label: &mut [u8],
+    stack: &mut [u16],
 ) -> [u8; LONGEST]
-    requires { ⌜ Sweepable (now arcs) (now entry) (now cap) (now first) (now more) (now order) begin ⌝ }
-    ensures { λ r. ⌜ recordIn r ≡ frontBytes (begin .n1) (begin .n2)
-        (routePairs (graphNetwork (graphOf (now (arcs .entry)) (now (entry .entry)) (now (cap .entry)) begin))) ⌝ }
+    requires network { ⌜ ((f : Graph) × Sweepable f (now capacities) (now links) (now order) n2 begin) ⌝ }
+    requires blank { ⌜ Blank (now capacities) (now label) (now stack) ⌝ }
+    ensures { λ r. ⌜ ((f : Graph) → Sweepable f (now (capacities .entry)) (now (links .entry)) (now (order .entry)) n2 begin
+        → recordIn r ≡ frontBytes (f .n1) (f .n2) (routePairs (graphNetwork f))) ⌝ }
 {
-    let mut label = [0u8; MAX_NODES];
-    let mut stack = [0u8; MAX_NODES];
-    let mut wait = [0u8; MAX_POSITION + 1];
-    let mut found = buffer::empty(begin.n1, begin.n2);
-    let t = wide(begin.node);
-    label[t] = cap[t];
+    let mut wait = [0u16; MAX_POSITION + 1];
+    let mut found = buffer::empty(order.len() as u8, n2);
+    let t = wide_two(begin.node);
+    label[t] = capacities[capacities.len() / 2 + t];
     let mut x = begin.x;
     let mut node = begin.node;
     let mut last = Pos2(0);
     loop {
-        let at = relax::step_to(begin, x, Pos2(label[wide(node)]), node, 0);
-        labels::flood(
-            arcs,
-            entry,
-            cap,
-            first,
-            more,
-            at,
-            &mut label,
-            &mut stack,
-            &mut wait,
-        );
+        let at = relax::step_to(begin, x, Pos2(label[wide_two(node)]), node, 0);
+        labels::flood(capacities, links, at, label, stack, &mut wait);
         let s = begin.source;
         let y = Pos2(label[s]);
         collect(&mut found, Pair { p1: x, p2: y }, last);
         last = y;
-        x = next_in(order, &label, Pos1(x.0 - 1), y);
+        x = next_in(order, label, Pos1(x.0 - 1), y);
         let place = wide(x.0);
         if place == 0 {
             return found;

@@ -16,7 +16,8 @@ fn draw(seed: u64, use_of: u64, n: u64) -> u64
     pick(times(x, x % 1000), use_of, n)
 }
 
-// What a network is like: its kind, N, A, s, t, and the largest class size.
+// What a network is like: its kind, N, A, s, t, the most nodes of a class; how arcs lead and fail,
+// and how many arcs of each class do.
 pub struct Shape {
     pub kind: u64,
     pub nodes: u64,
@@ -24,7 +25,18 @@ pub struct Shape {
     pub source: u64,
     pub target: u64,
     pub most: u64,
+    pub pipes: u64,
+    pub failing: u64,
 }
+
+// All arcs of kind 0; one way, both ways, or either, of all classes; either, and no node fails.
+pub const KIND_0: u64 = 0;
+
+pub const ONE_WAY: u64 = 1;
+
+pub const BOTH_WAYS: u64 = 2;
+
+pub const ARCS_ALONE: u64 = 4;
 
 fn wrap(x: u64, n: u64) -> u64 {
     if n == 0 {
@@ -49,7 +61,7 @@ fn target_of(seed: u64, nodes: u64) -> u64
 }
 
 // Eight arcs a node in a dense network, four in a grid or a ring, two and some in another; in a
-// small one any number below 17.
+// small one 8 to 16, now and then any number below.
 fn arcs_in(seed: u64, kind: u64, nodes: u64) -> u64
     requires { ⌜ nodes ≤ 160 ⌝ }
     ensures { λ r. ⌜ r ≤ 1024 ⌝ }
@@ -57,8 +69,11 @@ fn arcs_in(seed: u64, kind: u64, nodes: u64) -> u64
     if kind == 6 {
         return 1024;
     }
-    if kind == 7 {
+    if (kind == 7) & (draw(seed, 4, 4) == 0) {
         return draw(seed, 3, 17);
+    }
+    if kind == 7 {
+        return 8 + draw(seed, 3, 9);
     }
     if kind == 1 {
         return nodes % 128 * 8;
@@ -69,42 +84,68 @@ fn arcs_in(seed: u64, kind: u64, nodes: u64) -> u64
     nodes * 2 + draw(seed, 3, 20)
 }
 
-fn most_in(kind: u64) -> u64
+// At the limits arcs take half of each class.
+fn most_in(kind: u64, pipes: u64) -> u64
     ensures { λ r. ⌜ r ≤ 64 ⌝ }
 {
-    if kind == 5 { 0 } else { 64 }
+    if (kind == 5) | (pipes == ARCS_ALONE) {
+        return 0;
+    }
+    if (kind == 6) & (pipes != KIND_0) {
+        return 32;
+    }
+    64
 }
 
-fn nodes_in(seed: u64, kind: u64) -> u64
+// Some arcs of each class, and as many as there is room for at the limits and now and then.
+fn failing_in(seed: u64, kind: u64, pipes: u64) -> u64
+    ensures { λ r. ⌜ r ≤ 64 ⌝ }
+{
+    if pipes == KIND_0 {
+        return 0;
+    }
+    if (kind == 6) | (draw(seed, 8, 24) == 0) {
+        return 64;
+    }
+    draw(seed, 9, 8)
+}
+
+// Small networks with arcs both ways have some more nodes, so that routes may cross.
+fn nodes_in(seed: u64, kind: u64, pipes: u64) -> u64
     ensures { λ r. ⌜ (2 ≤ r) × (r ≤ 160) ⌝ }
 {
     if kind == 6 {
         return 160;
     }
-    if kind == 7 {
+    if (kind == 7) & (pipes < BOTH_WAYS) {
         return 2 + draw(seed, 2, 6);
+    }
+    if kind == 7 {
+        return 3 + draw(seed, 2, 5);
     }
     2 + draw(seed, 2, 30)
 }
 
-// Sparse, dense, grid, ring, geometric; without class 1 and 2 but for the ends; at the limits;
-// small.
-pub fn shape_of(seed: u64, kind: u64) -> Shape
-    ensures { λ r. ⌜ (2 ≤ r .nodes) × (r .nodes ≤ 160) × (r .arcs ≤ 1024) × (r .most ≤ 64) ⌝ }
+// Sparse, dense, grid, ring, geometric; without nodes of class 1 and 2 but for the ends; at the
+// limits; small.
+pub fn shape_of(seed: u64, kind: u64, pipes: u64) -> Shape
+    ensures { λ r. ⌜ (2 ≤ r .nodes) × (r .nodes ≤ 160) × (r .arcs ≤ 1024) × (r .most ≤ 64) × (r .failing ≤ 64) ⌝ }
 {
-    let nodes = nodes_in(seed, kind);
+    let nodes = nodes_in(seed, kind, pipes);
     Shape {
-        kind: if kind < 6 { kind } else { draw(seed, 1, 5) },
+        kind: if kind < 6 { kind } else { draw(seed, 1, 9) },
         nodes: nodes,
         arcs: arcs_in(seed, kind, nodes),
         source: source_of(seed, nodes),
         target: target_of(seed, nodes),
-        most: most_in(kind),
+        most: most_in(kind, pipes),
+        pipes: pipes,
+        failing: failing_in(seed, kind, pipes),
     }
 }
 
 // A class for each node, as long as the class has room. Source and target are of class 0, 1 or 2
-// alike, also where no other node fails.
+// alike, also where no other node fails, but for networks whose arcs alone do.
 pub fn classes(seed: u64, s: Shape, nodes: &mut [u8])
     requires { ⌜ s .nodes ≤ 160 ⌝ }
 {
@@ -114,7 +155,11 @@ pub fn classes(seed: u64, s: Shape, nodes: &mut [u8])
     while v < s.nodes {
         let end = (v == s.source) | (v == s.target);
         let c = draw(seed, 10 + v, if end { 6 } else { 5 });
-        let room = if end { 64 } else { s.most };
+        let room = if end & (s.pipes != ARCS_ALONE) {
+            64
+        } else {
+            s.most
+        };
         let one = (c < 2) & (n1 < room);
         let two = (1 < c) & (c < 4) & (n2 < room);
         n1 += flag(one);
@@ -206,7 +251,7 @@ fn arc(seed: u64, s: Shape, i: u64, arcs: &mut [u8])
         w
     };
     let turned = draw(seed, 40000 + i, 2) == 0;
-    let at = 2 * i as usize;
+    let at = 3 * i as usize;
     poke(arcs, at, if turned { v } else { u });
     poke(arcs, at + 1, if turned { u } else { v });
 }
@@ -221,22 +266,117 @@ pub fn arcs_of(seed: u64, s: Shape, arcs: &mut [u8])
     }
 }
 
-// The members of a class from a place on, and the place behind them.
-fn members(nodes: &[u8], class: u64, out: &mut [u8], at: usize) -> usize
-    requires { ⌜ (at ≤ 4000) × (length (now nodes) ≤ 160) ⌝ }
-    ensures { λ r. ⌜ r ≤ at + 160 ⌝ }
+// The class of arc i: each of the two for as many of all arcs as fail.
+fn arc_class(seed: u64, s: Shape, i: u64) -> u64
+    requires { ⌜ s .failing ≤ 64 ⌝ }
+    ensures { λ r. ⌜ r ≤ 2 ⌝ }
 {
-    let mut k = at;
-    let mut v: usize = 0;
-    while v < nodes.len() {
-        // A node of another class is overwritten.
-        poke(out, k, v as u64);
-        k += flag(byte(nodes, v) == class) as usize;
-        v += 1;
+    let c = draw(seed, 60000 + i % 2048, s.arcs);
+    if c < s.failing {
+        return 1;
     }
-    k
+    if c < 2 * s.failing { 2 } else { 0 }
 }
 
+// 3 where arc i leads both ways, else 0.
+fn both_ways(seed: u64, s: Shape, i: u64) -> u64
+    ensures { λ r. ⌜ r ≤ 3 ⌝ }
+{
+    if (s.pipes == KIND_0) | (s.pipes == ONE_WAY) {
+        return 0;
+    }
+    if s.pipes == BOTH_WAYS {
+        return 3;
+    }
+    3 * flag(draw(seed, 56000 + i % 2048, 2) == 0)
+}
+
+// How many nodes are of a class.
+fn of_class(nodes: &[u8], class: u64) -> u64
+    requires { ⌜ length (now nodes) ≤ 160 ⌝ }
+    ensures { λ r. ⌜ r ≤ 160 ⌝ }
+{
+    let mut n: u64 = 0;
+    let mut v: usize = 0;
+    while v < nodes.len() {
+        n += flag(byte(nodes, v) == class);
+        v += 1;
+    }
+    n
+}
+
+// A kind for each arc, as long as its class has room.
+pub fn kinds(seed: u64, s: Shape, nodes: &[u8], arcs: &mut [u8])
+    requires { ⌜ (s .arcs ≤ 1024) × (s .failing ≤ 64) × (length (now nodes) ≤ 160) ⌝ }
+{
+    let mut n1 = of_class(nodes, 1);
+    let mut n2 = of_class(nodes, 2);
+    let mut i: u64 = 0;
+    while i < s.arcs {
+        let c = arc_class(seed, s, i);
+        let one = flag((c == 1) & (n1 < 64));
+        let two = flag((c == 2) & (n2 < 64));
+        n1 += one;
+        n2 += two;
+        let class = one + 2 * two;
+        poke(arcs, 3 * i as usize + 2, class + both_ways(seed, s, i));
+        i += 1;
+    }
+}
+
+// ---- what arcs there are
+// How many are of a kind.
+pub fn of_kind(arcs: &[u8], kind: u64) -> u64
+    requires { ⌜ length (now arcs) ≤ 10000 ⌝ }
+    ensures { λ r. ⌜ r ≤ 10000 ⌝ }
+{
+    let mut n: u64 = 0;
+    let mut i: usize = 2;
+    while i < arcs.len() {
+        n += flag(byte(arcs, i) == kind);
+        i += 3;
+    }
+    n
+}
+
+// Whether the arcs at two places join the same nodes, whichever way, and are of differing kinds.
+fn beside(arcs: &[u8], i: usize, j: usize) -> bool
+    requires { ⌜ (i ≤ 10000) × (j ≤ 10000) ⌝ }
+{
+    let u = byte(arcs, i);
+    let v = byte(arcs, i + 1);
+    let x = byte(arcs, j);
+    let y = byte(arcs, j + 1);
+    (((u == x) & (v == y)) | ((u == y) & (v == x))) & (byte(arcs, i + 2) != byte(arcs, j + 2))
+}
+
+fn any_beside(arcs: &[u8], i: usize) -> bool
+    requires { ⌜ i ≤ 10000 ⌝ }
+{
+    let mut any = false;
+    let mut j: usize = 0;
+    while j < i {
+        any = any | beside(arcs, i, j);
+        j += 3;
+    }
+    any
+}
+
+// Whether parallel arcs differ in kind.
+pub fn parallel(arcs: &[u8]) -> bool
+    requires { ⌜ length (now arcs) ≤ 10000 ⌝ }
+{
+    let mut i: usize = 0;
+    while i < arcs.len() {
+        if any_beside(arcs, i) {
+            return true;
+        }
+        i += 3;
+    }
+    false
+}
+
+// ---- rounds
 // The places from `at` to `end` in an order at random.
 fn shuffle(seed: u64, out: &mut [u8], at: usize, end: usize)
     requires { ⌜ (at ≤ 5000) × (end ≤ 5000) ⌝ }
@@ -251,14 +391,24 @@ fn shuffle(seed: u64, out: &mut [u8], at: usize, end: usize)
     }
 }
 
-// A round from a place on: the order of class 1, then that of class 2.
-pub fn round(seed: u64, nodes: &[u8], out: &mut [u8], at: usize) -> usize
-    requires { ⌜ (at ≤ 3000) × (length (now nodes) ≤ 160) ⌝ }
-    ensures { λ r. ⌜ r ≤ at + 320 ⌝ }
+// Each place of a class of n members once, from a place on, in an order at random.
+fn order(seed: u64, n: usize, out: &mut [u8], at: usize)
+    requires { ⌜ (at ≤ 4000) × (n ≤ 64) ⌝ }
 {
-    let middle = members(nodes, 1, out, at);
-    let end = members(nodes, 2, out, middle);
-    shuffle(seed, out, at, middle);
-    shuffle(seed, out, middle, end);
-    end
+    let mut k: usize = 0;
+    while k < n {
+        poke(out, at + k, k as u64);
+        k += 1;
+    }
+    shuffle(seed, out, at, at + n);
+}
+
+// A round from a place on: the order of class 1, then that of class 2.
+pub fn round(seed: u64, n1: usize, n2: usize, out: &mut [u8], at: usize) -> usize
+    requires { ⌜ (at ≤ 3000) × (n1 ≤ 64) × (n2 ≤ 64) ⌝ }
+    ensures { λ r. ⌜ r ≤ at + 128 ⌝ }
+{
+    order(seed, n1, out, at);
+    order(seed, n2, out, at + n1);
+    at + n1 + n2
 }

@@ -1,8 +1,16 @@
-// Records in slots of 160 bytes, tables in slots of 4,225, and counts.
+// Records in slots of 160 bytes, tables in slots of 4,225 behind them, which ways of arcs routes use;
+// and counts.
 use answer::Written;
 use test_support::byte;
 use test_support::poke;
 ghost use Prim.Native.Nat.{_≤_};
+
+// Eight records, eight tables, and 64 ways.
+pub const TABLES: usize = 1280;
+
+pub const WAYS: usize = 35080;
+
+pub const FOUND: usize = 35144;
 
 // The length written; 0 on a refusal.
 pub fn length_of(w: Written) -> usize
@@ -39,7 +47,7 @@ pub const SEARCHED: usize = 2;
 
 pub const PAIRS: usize = 3;
 
-pub const PATHS: usize = 4;
+pub const ROUTES: usize = 4;
 
 pub const PLANS: usize = 5;
 
@@ -61,7 +69,22 @@ pub const BOTH_CLASSES: usize = 13;
 
 pub const ALONE: usize = 14;
 
-pub const COUNTS: usize = 15;
+pub const KIND_0: usize = 15;
+
+pub const ARCS_ALONE: usize = 16;
+
+pub const END_AND_ARC: usize = 17;
+
+pub const PARALLEL: usize = 18;
+
+pub const EACH_WAY: usize = 19;
+
+pub const BOTH_SORTS: usize = 20;
+
+// Six places, one for each kind.
+pub const KINDS: usize = 21;
+
+pub const COUNTS: usize = 27;
 
 pub fn tick(counts: &mut [u64], at: usize, n: u64) {
     if at < counts.len() {

@@ -8,8 +8,8 @@
 //   13 the tally's length, 14 and 15 the chances, 16 and 17 the class sizes, 18 room for the
 //   weights, 19 the age
 //   20 the file: 6 nodes, 65 bytes between that make a class too large if read as nodes, 91 arcs,
-//   105 round, 109 trailer
-//   141 the first record, 150 the second, 155 the tally: no cell above 0, but for remove
+//   112 round, 116 trailer
+//   148 the first record, 157 the second, 162 the tally: no cell above 0, but for remove
 use answer::Aged;
 use answer::Done;
 use answer::Opened;
@@ -18,6 +18,8 @@ use answer::Written;
 use libc::STDOUT_FILENO;
 use test_support::byte;
 use test_support::equal;
+use test_support::field;
+use test_support::fields;
 use test_support::flag;
 use test_support::part;
 use test_support::poke;
@@ -56,38 +58,6 @@ const RELIABILITY: u64 = 10;
 
 const REMOVE: u64 = 11;
 
-// ---- numbers in a text, one sign between two
-fn fields(text: &[u8]) -> u64
-    ensures { λ r. ⌜ r ≤ 1000 ⌝ }
-{
-    let mut n: u64 = 1;
-    let mut i: usize = 0;
-    while i < text.len() {
-        n = n % 1000 + flag(byte(text, i) < 48);
-        i += 1;
-    }
-    n
-}
-
-// Number k, from 0.
-fn field(text: &[u8], k: u64) -> u64 {
-    let mut n: u64 = 0;
-    let mut x: u64 = 0;
-    let mut i: usize = 0;
-    while i < text.len() {
-        let c = byte(text, i);
-        let digit = (n == k) & (47 < c);
-        x = if digit {
-            x % 1000000 * 10 + (c + 208) % 256
-        } else {
-            x
-        };
-        n = n % 1000 + flag(c < 48);
-        i += 1;
-    }
-    x
-}
-
 // ---- cases
 // Puts the numbers of a text into a case.
 fn set(case: &mut [u32], at: usize, text: &[u8])
@@ -105,17 +75,21 @@ fn good(case: &mut [u32]) {
     set(
         case,
         0,
-        b"6 14 4 0 1 1 56 121 0 9 9 5 7 12 500000 500000 2 2 3 30",
+        b"6 21 4 0 1 1 63 128 0 9 9 5 7 12 500000 500000 2 2 3 30",
     );
     set(case, 20, b"0 0 1 1 2 2");
-    set(case, 91, b"0 2 2 4 4 1 0 3 3 1 0 5 5 1 3 2 5 4");
     set(
         case,
-        109,
-        b"6 0 0 0 7 0 0 0 1 0 0 0 0 0 0 0 1 0 0 0 89 0 0 0 18 0 0 0 4 0 0 0",
+        91,
+        b"0 2 0 2 4 0 4 1 0 0 3 0 3 1 0 0 5 0 5 1 0 1 0 1 0",
     );
-    set(case, 141, b"2 2 3 3 1 2 2 1 3 2 2 1 2 3");
-    set(case, 155, b"2 2 1 0 0 0 0 0 0 0 0 0");
+    set(
+        case,
+        116,
+        b"6 0 0 0 7 0 0 0 1 0 0 0 0 0 0 0 1 0 0 0 96 0 0 0 25 0 0 0 4 0 0 0",
+    );
+    set(case, 148, b"2 2 3 3 1 2 2 1 3 2 2 1 2 3");
+    set(case, 162, b"2 2 1 0 0 0 0 0 0 0 0 0");
 }
 
 // The tally of two rounds, one of them the first record's: what remove takes back.
@@ -124,7 +98,7 @@ fn good_for(call: u64, case: &mut [u32]) {
     if call != REMOVE {
         return;
     }
-    set(case, 155, b"2 2 2 0 0 1 0 1 1 1 1 2");
+    set(case, 162, b"2 2 2 0 0 1 0 1 1 1 1 2");
 }
 
 fn size(case: &[u32], at: usize) -> usize
@@ -229,7 +203,7 @@ fn fill_bytes(call: u64, case: &[u32], given: &[u8], out: &mut [u8]) -> u64 {
         return written(writer::write_study(
             part(given, 0, size(case, 0)),
             part(given, 71, size(case, 1)),
-            part(given, 85, size(case, 2)),
+            part(given, 92, size(case, 2)),
             size(case, 3),
             size(case, 4),
             size(case, 5),
@@ -240,8 +214,8 @@ fn fill_bytes(call: u64, case: &[u32], given: &[u8], out: &mut [u8]) -> u64 {
         let file = part(given, 0, size(case, 7));
         return written(search::search(file, size(case, 8), out));
     }
-    let left = part(given, 121, size(case, 10));
-    let right = part(given, 130, size(case, 11));
+    let left = part(given, 128, size(case, 10));
+    let right = part(given, 137, size(case, 11));
     if call == SERIES {
         return written(compose::series(left, right, out));
     }
@@ -265,7 +239,7 @@ fn room_at(call: u64) -> usize {
 }
 
 fn call_bytes(call: u64, case: &[u32]) -> u64 {
-    let mut given = [0u8; 135];
+    let mut given = [0u8; 142];
     let mut out = [0u8; 64];
     bytes_of(case, 20, &mut given);
     bytes_of(case, 0, &mut out);
@@ -293,22 +267,22 @@ fn lend_words(call: u64, case: &[u32], given: &[u8], words: &mut [u32]) -> u64 {
     let number = fill_words(call, case, given, words);
     told(
         number,
-        bytes_kept(case, 141, given) & words_kept(case, 155, words),
+        bytes_kept(case, 148, given) & words_kept(case, 162, words),
     )
 }
 
 fn call_words(call: u64, case: &[u32]) -> u64 {
     let mut given = [0u8; 14];
     let mut words = [0u32; 12];
-    bytes_of(case, 141, &mut given);
-    words_of(case, 155, &mut words);
+    bytes_of(case, 148, &mut given);
+    words_of(case, 162, &mut words);
     let n = room(case, if call == WEIGHTS { 18 } else { 13 }, 12);
     lend_words(call, case, &given, &mut words[0..n])
 }
 
 // ---- calls that fill nothing
 fn call_opening(case: &[u32]) -> u64 {
-    let mut file = [0u8; 121];
+    let mut file = [0u8; 128];
     bytes_of(case, 20, &mut file);
     let o = study::open_study(part(&file, 0, size(case, 7)));
     told(opened(o), bytes_kept(case, 20, &file))
@@ -316,13 +290,13 @@ fn call_opening(case: &[u32]) -> u64 {
 
 // Lookup: its part is empty where the check refuses.
 fn call_check(case: &[u32]) -> u64 {
-    let mut bytes = [0u8; 121];
+    let mut bytes = [0u8; 128];
     bytes_of(case, 20, &mut bytes);
     let file = part(&bytes, 0, size(case, 7));
     let number = done(study::check_round(file, size(case, 8)));
     let n = 4 * flag(number == 0) as usize;
     let round = study::round_bytes(file, size(case, 8));
-    if !equal(round, part(&bytes, 85, n)) {
+    if !equal(round, part(&bytes, 92, n)) {
         return CHANGED;
     }
     told(number, bytes_kept(case, 20, &bytes))
@@ -330,12 +304,12 @@ fn call_check(case: &[u32]) -> u64 {
 
 fn call_reliability(case: &[u32]) -> u64 {
     let mut words = [0u32; 12];
-    words_of(case, 155, &mut words);
+    words_of(case, 162, &mut words);
     let n = room(case, 13, 12);
     let p1 = word(case, 14) as u32;
     let p2 = word(case, 15) as u32;
     let r = reliability::reliability(&words[0..n], p1, p2);
-    told(rated(r), words_kept(case, 155, &words))
+    told(rated(r), words_kept(case, 162, &words))
 }
 
 fn call_on(call: u64, case: &[u32]) -> u64 {
@@ -358,8 +332,11 @@ fn call_on(call: u64, case: &[u32]) -> u64 {
 }
 
 // ---- lists of changes: place, value, number
-// Opening refuses no round, lookup's check no order and no room.
+// Opening refuses no round, lookup's check no order and no room; both refuse kinds.
 fn due(call: u64, number: u64) -> u64 {
+    if number == 32 {
+        return 32;
+    }
     if (call == OPENING) & (9 < number) {
         return 0;
     }
@@ -374,7 +351,7 @@ fn try_change(call: u64, list: &[u8], k: u64, seen: &mut [u8]) -> u64
     requires { ⌜ (k ≤ 1000) × (call ≤ 11) ⌝ }
     ensures { λ r. ⌜ r ≤ 1 ⌝ }
 {
-    let mut case = [1u32; 167];
+    let mut case = [1u32; 174];
     good_for(call, &mut case);
     put(
         &mut case,
@@ -382,8 +359,8 @@ fn try_change(call: u64, list: &[u8], k: u64, seen: &mut [u8]) -> u64
         field(list, 3 * k + 1),
     );
     let number = call_on(call, &case);
-    let at = if number < 32 {
-        32 * call + number
+    let at = if number < 40 {
+        40 * call + number
     } else {
         PAST
     };
@@ -411,12 +388,12 @@ fn try_writer(seen: &mut [u8]) -> u64
 {
     let a = try_list(
         WRITER,
-        b"6 56 0,0 1 2,1 13 2,5 100001 2,3 6 3,4 6 3,4 0 3,22 3 5,0 71 6",
+        b"6 63 0,0 1 2,1 20 2,1 22 2,1 18 0,5 100001 2,3 6 3,4 6 3,4 0 3,22 3 5,0 71 6",
         seen,
     );
     let b = try_list(
         WRITER,
-        b"3 2 0,4 4 0,91 6 8,92 0 8,2 3 9,2 5 9,106 3 11,108 5 11,6 55 15",
+        b"3 2 0,4 4 0,91 6 8,92 0 8,93 6 32,93 3 0,93 4 9,93 5 9,2 3 9,2 5 9,112 2 11,113 1 11,115 1 11,115 2 11,6 62 15",
         seen,
     );
     a + b
@@ -430,17 +407,17 @@ fn try_file(call: u64, seen: &mut [u8]) -> u64
 {
     let a = try_list(
         call,
-        b"7 121 0,7 31 1,109 1 2,109 161 2,114 5 2,119 2 2,121 6 3,125 6 3,121 1 3",
+        b"7 128 0,7 31 1,116 1 2,116 161 2,121 5 2,126 2 2,128 6 3,132 6 3,128 1 3",
         seen,
     );
     let b = try_list(
         call,
-        b"137 19 4,133 90 4,129 90 4,109 72 4,113 8 4,22 3 5,109 71 6,121 2 0,125 4 0",
+        b"144 26 4,140 97 4,136 97 4,116 72 4,120 8 4,22 3 5,116 71 6,128 2 0,132 4 0",
         seen,
     );
     let c = try_list(
         call,
-        b"91 6 8,92 0 8,117 2 9,8 1 10,106 3 11,108 5 11,9 8 15",
+        b"91 6 8,92 0 8,93 6 32,93 3 0,93 4 9,93 5 9,124 2 9,8 1 10,112 2 11,113 1 11,115 1 11,115 2 11,9 8 15",
         seen,
     );
     a + b + c
@@ -452,7 +429,7 @@ fn try_join(call: u64, seen: &mut [u8]) -> u64
 {
     try_list(
         call,
-        b"12 7 0,141 65 12,143 4 12,10 8 12,11 4 12,150 3 13,12 6 15",
+        b"12 7 0,148 65 12,150 4 12,10 8 12,11 4 12,157 3 13,12 6 15",
         seen,
     )
 }
@@ -463,10 +440,10 @@ fn try_tallies(seen: &mut [u8]) -> u64
     let a = try_list(NEW, b"13 12 0,16 65 6,17 65 6,13 11 21,13 2 21", seen);
     let b = try_list(
         ADD,
-        b"13 12 0,143 4 12,10 8 12,13 11 21,13 2 21,155 65 22,157 100001 22,158 1 22,158 2 22",
+        b"13 12 0,150 4 12,10 8 12,13 11 21,13 2 21,162 65 22,164 100001 22,165 1 22,165 2 22",
         seen,
     );
-    let c = try_list(ADD, b"141 3 23,142 3 23,157 100000 24", seen);
+    let c = try_list(ADD, b"148 3 23,149 3 23,164 100000 24", seen);
     a + b + c
 }
 
@@ -476,12 +453,12 @@ fn try_removes(seen: &mut [u8]) -> u64
 {
     let a = try_list(
         REMOVE,
-        b"13 12 0,166 1 0,157 100000 0,143 4 12,10 8 12,13 11 21,13 2 21,155 65 22,157 100001 22",
+        b"13 12 0,173 1 0,164 100000 0,150 4 12,10 8 12,13 11 21,13 2 21,162 65 22,164 100001 22",
         seen,
     );
     let b = try_list(
         REMOVE,
-        b"157 1 22,157 0 22,158 1 22,141 3 23,142 3 23,160 0 31,159 1 31,161 1 31",
+        b"164 1 22,164 0 22,165 1 22,148 3 23,149 3 23,167 0 31,166 1 31,168 1 31",
         seen,
     );
     a + b
@@ -495,7 +472,7 @@ fn try_chances(seen: &mut [u8]) -> u64
     let c = try_list(RELIABILITY, b"13 12 0,14 1000001 14,15 1000001 14", seen);
     let d = try_list(
         RELIABILITY,
-        b"13 11 21,13 2 21,155 65 22,157 100001 22,158 1 22,166 2 22,157 0 25",
+        b"13 11 21,13 2 21,162 65 22,164 100001 22,165 1 22,173 2 22,164 0 25",
         seen,
     );
     a + b + c + d
@@ -513,8 +490,8 @@ fn show(name: &[u8], call: usize, seen: &[u8])
 {
     io::write_all(STDOUT_FILENO, name);
     let mut k: usize = 1;
-    while k < 32 {
-        if byte(seen, 32 * call + k) == 1 {
+    while k < 40 {
+        if byte(seen, 40 * call + k) == 1 {
             show_number(k as u64);
         }
         k += 1;
@@ -541,7 +518,7 @@ fn show_all(seen: &[u8]) {
 pub fn try_refusals() -> u64
     ensures { λ r. ⌜ r ≤ 10000 ⌝ }
 {
-    let mut seen = [0u8; 384];
+    let mut seen = [0u8; 480];
     let w = try_writer(&mut seen);
     let o = try_file(OPENING, &mut seen);
     let l = try_file(CHECK, &mut seen);

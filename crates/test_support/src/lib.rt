@@ -124,7 +124,41 @@ pub fn record_holds(record: &[u8], a: u64, b: u64) -> bool {
     holds
 }
 
-// A line of output: a name and a number.
+// ---- numbers in a text, one sign between two
+// How many.
+pub fn fields(text: &[u8]) -> u64
+    ensures { λ r. ⌜ r ≤ 1000 ⌝ }
+{
+    let mut n: u64 = 1;
+    let mut i: usize = 0;
+    while i < text.len() {
+        n = n % 1000 + flag(byte(text, i) < 48);
+        i += 1;
+    }
+    n
+}
+
+// Number k, from 0; 0 past the last.
+pub fn field(text: &[u8], k: u64) -> u64 {
+    let mut n: u64 = 0;
+    let mut x: u64 = 0;
+    let mut i: usize = 0;
+    while i < text.len() {
+        let c = byte(text, i);
+        let digit = (n == k) & (47 < c);
+        x = if digit {
+            x % 1000000 * 10 + (c + 208) % 256
+        } else {
+            x
+        };
+        n = n % 1000 + flag(c < 48);
+        i += 1;
+    }
+    x
+}
+
+// ---- output
+// A line: a name and a number.
 pub fn line(name: &[u8], n: u64) {
     io::write_all(STDOUT_FILENO, name);
     io::print_decimal(STDOUT_FILENO, n);

@@ -32,13 +32,16 @@ above-requires c κs = search needs
 wide-requires : tie.Need-wide-requires Inv-loop μ-loop
 wide-requires c κs = search needs
 
+mul-if2 : tie.Need-mul-if2 Inv-loop μ-loop
+mul-if2 c = search needs
+
 shared-slice-read-if2 : tie.Need-shared-slice-read-if2 Inv-loop μ-loop
 shared-slice-read-if2 c = let l = c .before .before .before .before .loop .inv in omega (arith, l .0 .low, l .0 .long, l .1, c .before .wide .ensures)
 
 returns : tie.Need-returns Inv-loop μ-loop
 returns c =
     let a = c .before .before .before .before .before .before .before .args in
-    sought (c .before .before .before .before .before .loop .inv .0) (a .floor .0) (above (c .before .before .before)) (λ e. c .if2 .taken (ap (λ n. getD (a .wait .now) n 0) (c .before .before .wide .ensures .0) ∙ e))
+    sought (c .before .before .before .before .before .loop .inv .0) (a .floor .0) (above (c .before .before .before)) (λ e. omega (arith, c .if2 .taken, ap (λ n. getD (a .wait .now) n 0) (c .before .before .wide .ensures .0), e))
 
 sub-m-2 : tie.Need-sub-m-2 Inv-loop μ-loop
 sub-m-2 c = omega (arith, above (c .before .before .before))
@@ -50,7 +53,7 @@ loop-again : tie.Need-loop-again Inv-loop μ-loop
 loop-again c =
     let a = c .before .before .before .before .before .before .before .args in
     let l = c .before .before .before .before .before .loop .inv in
-    (seek-on (l .0) (omega (arith, above (c .before .before .before))) (ap (λ n. getD (a .wait .now) n 0) (sym (c .before .before .wide .ensures .0)) ∙ c .if2 .left), l .1)
+    (seek-on (l .0) (omega (arith, above (c .before .before .before))) (omega (arith, c .if2 .left, ap (λ n. getD (a .wait .now) n 0) (c .before .before .wide .ensures .0))), l .1)
 
 returns-2 : tie.Need-returns-2 Inv-loop μ-loop
 returns-2 c = sought-none (c .before .before .loop .inv .0) (c .before .before .before .before .args .floor .0) (ltb-false _ _ (sym (c .before .above .ensures) ∙ c .if1 .left))
@@ -65,6 +68,7 @@ next-level-spec =
     loop-holds
     above-requires
     wide-requires
+    mul-if2
     shared-slice-read-if2
     returns
     sub-m-2

@@ -2,7 +2,7 @@
 use mathlib.Core.Path.{_≡_, ap}
 use Prim.Native.Nat.{_+_, _-_, _*_, _≤_}
 use native.Mathlib.Omega.{arith}
-use lib.ListN.{drop, length}
+use lib.ListN.{drop}
 use borrow.Author.Needs.{needs}
 use Rattle.orders.specs.Order.{count}
 use Rattle.orders.proofs.Scans.{count-next, count-part}

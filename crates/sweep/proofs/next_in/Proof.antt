@@ -17,8 +17,8 @@ abbrev μ-loop : tie.MeasureT-loop
 μ-loop order label last r₀ r = r
 
 -- the node at the place looked at
-here : (c : tie.After-wide2 Inv-loop μ-loop) → let a = c .before .before .before .before .before .before .before .args in c .wide2 .result ≡ getD (a .order .now) (c .before .before .before .before .loop .r - 1) 0
-here c = c .wide2 .ensures .0 ∙ ap (λ k. getD (c .before .before .before .before .before .before .before .args .order .now) (k - 1) 0) (c .before .before .wide .ensures .0)
+here : (c : tie.After-wide-two Inv-loop μ-loop) → let a = c .before .before .before .before .before .before .before .args in c .wide-two .result ≡ getD (a .order .now) (c .before .before .before .before .loop .r - 1) 0
+here c = c .wide-two .ensures ∙ ap (λ k. getD (c .before .before .before .before .before .before .before .args .order .now) (k - 1) 0) (c .before .before .wide .ensures .0)
 
 loop-holds : tie.Need-loop-holds Inv-loop μ-loop
 loop-holds c = (omega arith, λ k h i. absurd (omega arith))
@@ -26,17 +26,20 @@ loop-holds c = (omega arith, λ k h i. absurd (omega arith))
 wide-requires : tie.Need-wide-requires Inv-loop μ-loop
 wide-requires c κs = search needs
 
-sub-wide : tie.Need-sub-wide Inv-loop μ-loop
-sub-wide c = search needs
+sub-wide-two : tie.Need-sub-wide-two Inv-loop μ-loop
+sub-wide-two c = search needs
 
-shared-slice-read-wide : tie.Need-shared-slice-read-wide Inv-loop μ-loop
-shared-slice-read-wide c = omega (arith, c .before .wide .ensures, c .before .before .before .before .before .before .pre .0, c .before .before .before .loop .inv .0)
+mul-wide-two : tie.Need-mul-wide-two Inv-loop μ-loop
+mul-wide-two c = search needs
 
-wide-requires-2 : tie.Need-wide-requires-2 Inv-loop μ-loop
-wide-requires-2 c κs = search needs
+shared-slice-read-wide-two : tie.Need-shared-slice-read-wide-two Inv-loop μ-loop
+shared-slice-read-wide-two c = omega (arith, c .before .wide .ensures, c .before .before .before .before .before .before .pre .0, c .before .before .before .loop .inv .0)
 
-shared-slice-read-t11 : tie.Need-shared-slice-read-t11 Inv-loop μ-loop
-shared-slice-read-t11 c = omega (arith, here (c .before), c .before .before .before .before .before .before .before .before .pre .1 (c .before .before .before .before .before .loop .r - 1) (omega (arith, c .before .before .before .before .before .loop .inv .0)))
+wide-two-requires : tie.Need-wide-two-requires Inv-loop μ-loop
+wide-two-requires c κs = search needs
+
+shared-slice-read-t15 : tie.Need-shared-slice-read-t15 Inv-loop μ-loop
+shared-slice-read-t15 c = omega (arith, here (c .before), c .before .before .before .before .before .before .before .before .pre .1 (c .before .before .before .before .before .loop .r - 1) (omega (arith, c .before .before .before .before .before .loop .inv .0)))
 
 above-requires : tie.Need-above-requires Inv-loop μ-loop
 above-requires c κs = search needs
@@ -81,10 +84,11 @@ next-in-spec =
     μ-loop
     loop-holds
     wide-requires
-    sub-wide
-    shared-slice-read-wide
-    wide-requires-2
-    shared-slice-read-t11
+    sub-wide-two
+    mul-wide-two
+    shared-slice-read-wide-two
+    wide-two-requires
+    shared-slice-read-t15
     above-requires
     returns
     sub-r

@@ -1,4 +1,4 @@
--- The loop of `bad_arc` goes up to the length, two bytes a turn.
+-- The loop of `bad_arc` goes over the arcs, three bytes each.
 use Prim.Native.Nat.{_+_, _-_, _≤_}
 use borrow.Author.Needs.{needs}
 use lib.ListN.{length}
@@ -6,10 +6,10 @@ use Rattle.test_files.proofs.bad_arc.Statement.{statement}
 use Rattle.test_files.proofs.bad_arc.Tie as tie
 
 abbrev Inv-loop : tie.InvT-loop
-Inv-loop arcs n i₀ i = (1 ≤ i) × (i ≤ length arcs + 1)
+Inv-loop arcs n i₀ i = (2 ≤ i) × (i ≤ length arcs + 2)
 
 abbrev μ-loop : tie.MeasureT-loop
-μ-loop arcs n i₀ i = length arcs + 1 - i
+μ-loop arcs n i₀ i = length arcs + 2 - i
 
 loop-holds : tie.Need-loop-holds Inv-loop μ-loop
 loop-holds c = search needs
@@ -19,6 +19,9 @@ sub-num c = search needs
 
 num-requires : tie.Need-num-requires Inv-loop μ-loop
 num-requires c κs = search needs
+
+sub-num-2 : tie.Need-sub-num-2 Inv-loop μ-loop
+sub-num-2 c = search needs
 
 num-requires-2 : tie.Need-num-requires-2 Inv-loop μ-loop
 num-requires-2 c κs = search needs
@@ -47,6 +50,7 @@ bad-arc-spec =
     loop-holds
     sub-num
     num-requires
+    sub-num-2
     num-requires-2
     returns
     add-i

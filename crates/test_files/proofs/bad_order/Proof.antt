@@ -5,19 +5,16 @@ use Rattle.test_files.proofs.bad_order.Statement.{statement}
 use Rattle.test_files.proofs.bad_order.Tie as tie
 
 abbrev Inv-loop : tie.InvT-loop
-Inv-loop nodes class bytes start end i₀ i = start ≤ i
+Inv-loop n bytes start end i₀ i = start ≤ i
 
 abbrev μ-loop : tie.MeasureT-loop
-μ-loop nodes class bytes start end i₀ i = end - i
+μ-loop n bytes start end i₀ i = end - i
 
 loop-holds : tie.Need-loop-holds Inv-loop μ-loop
 loop-holds c = search needs
 
 num-requires : tie.Need-num-requires Inv-loop μ-loop
 num-requires c κs = search needs
-
-num-requires-2 : tie.Need-num-requires-2 Inv-loop μ-loop
-num-requires-2 c κs = search needs
 
 returns : tie.Need-returns Inv-loop μ-loop
 returns c = search needs
@@ -48,7 +45,6 @@ bad-order-spec =
     μ-loop
     loop-holds
     num-requires
-    num-requires-2
     returns
     stands-requires
     returns-2

@@ -5,19 +5,10 @@ use Rattle.test_files.proofs.bad_rounds.Statement.{statement}
 use Rattle.test_files.proofs.bad_rounds.Tie as tie
 
 abbrev Inv-loop : tie.InvT-loop
-Inv-loop nodes bytes total n1 n at₀ r₀ at r = r ≤ total
+Inv-loop n1 n2 bytes total at₀ r₀ at r = (n1 ≤ 20000) × (n2 ≤ 20000) × (r ≤ total)
 
 abbrev μ-loop : tie.MeasureT-loop
-μ-loop nodes bytes total n1 n at₀ r₀ at r = total - r
-
-of-class-requires : tie.Need-of-class-requires Inv-loop μ-loop
-of-class-requires c κs = search needs
-
-of-class-requires-2 : tie.Need-of-class-requires-2 Inv-loop μ-loop
-of-class-requires-2 c κs = search needs
-
-add-n : tie.Need-add-n Inv-loop μ-loop
-add-n c = search needs
+μ-loop n1 n2 bytes total at₀ r₀ at r = total - r
 
 loop-holds : tie.Need-loop-holds Inv-loop μ-loop
 loop-holds c = search needs
@@ -55,9 +46,6 @@ bad-rounds-spec =
     (tie.spec
     Inv-loop
     μ-loop
-    of-class-requires
-    of-class-requires-2
-    add-n
     loop-holds
     add-mid
     add-end

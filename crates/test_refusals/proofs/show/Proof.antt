@@ -5,10 +5,10 @@ use Rattle.test_refusals.proofs.show.Statement.{statement}
 use Rattle.test_refusals.proofs.show.Tie as tie
 
 abbrev Inv-loop : tie.InvT-loop
-Inv-loop name call seen k₀ t5 k = (1 ≤ k) × (k ≤ 32)
+Inv-loop name call seen k₀ t5 k = (1 ≤ k) × (k ≤ 40)
 
 abbrev μ-loop : tie.MeasureT-loop
-μ-loop name call seen k₀ t5 k = 32 - k
+μ-loop name call seen k₀ t5 k = 40 - k
 
 write-all-requires : tie.Need-write-all-requires Inv-loop μ-loop
 write-all-requires c κs = search needs

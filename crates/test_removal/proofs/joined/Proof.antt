@@ -1,16 +1,16 @@
--- The loop of `joined` makes at most 256 passes.
+-- Every turn of `joined` has one fewer left.
 use mathlib.Core.Path.{_≡_}
 use Prim.Native.Nat.{_≤_}
-use lib.ListN.{length}
 use borrow.Author.Needs.{needs}
+use lib.ListN.{length}
 use Rattle.test_removal.proofs.joined.Statement.{statement}
 use Rattle.test_removal.proofs.joined.Tie as tie
 
 abbrev Inv-loop : tie.InvT-loop
-Inv-loop arcs works source target reached₀ left₀ reached left = (left ≤ 256) × (length reached ≡ 256)
+Inv-loop net arcs works reached₀ left₀ reached left = (net .nodes ≤ 10000) × (left ≤ 256) × (length reached ≡ 256)
 
 abbrev μ-loop : tie.MeasureT-loop
-μ-loop arcs works source target reached₀ left₀ reached left = left
+μ-loop net arcs works reached₀ left₀ reached left = left
 
 slice-aggregate-poke : tie.Need-slice-aggregate-poke Inv-loop μ-loop
 slice-aggregate-poke c = search needs
@@ -39,6 +39,9 @@ byte-requires-2 c κs = search needs
 returns : tie.Need-returns Inv-loop μ-loop
 returns c = search needs
 
+returns-2 : tie.Need-returns-2 Inv-loop μ-loop
+returns-2 c = search needs
+
 sub-left : tie.Need-sub-left Inv-loop μ-loop
 sub-left c = search needs
 
@@ -48,14 +51,8 @@ loop-less c = search needs
 loop-again : tie.Need-loop-again Inv-loop μ-loop
 loop-again c = search needs
 
-slice-aggregate-byte-2 : tie.Need-slice-aggregate-byte-2 Inv-loop μ-loop
-slice-aggregate-byte-2 c = search needs
-
-byte-requires-3 : tie.Need-byte-requires-3 Inv-loop μ-loop
-byte-requires-3 c κs = search needs
-
-returns-2 : tie.Need-returns-2 Inv-loop μ-loop
-returns-2 c = search needs
+returns-3 : tie.Need-returns-3 Inv-loop μ-loop
+returns-3 c = search needs
 
 pub joined-spec : {M : Type 1} → statement M
 joined-spec =
@@ -72,9 +69,8 @@ joined-spec =
     slice-aggregate-byte
     byte-requires-2
     returns
+    returns-2
     sub-left
     loop-less
     loop-again
-    slice-aggregate-byte-2
-    byte-requires-3
-    returns-2)
+    returns-3)

@@ -1,13 +1,13 @@
--- The loop of `remove` goes up to the smaller of n and the order's length.
+-- The loop of `remove` goes over the first members of the order. The slice keeps its length.
 use mathlib.Core.Path.{_≡_}
 use Prim.Native.Nat.{_-_, _≤_}
-use lib.ListN.{length}
 use borrow.Author.Needs.{needs}
+use lib.ListN.{length}
 use Rattle.test_removal.proofs.remove.Statement.{statement}
 use Rattle.test_removal.proofs.remove.Tie as tie
 
 abbrev Inv-loop : tie.InvT-loop
-Inv-loop order n works₀ m k₀ works k = (k ≤ m) × (m ≤ length order) × (length works ≡ length works₀)
+Inv-loop order n works₀ m k₀ works k = (m ≤ length order) × (k ≤ m) × (length works ≡ length works₀)
 
 abbrev μ-loop : tie.MeasureT-loop
 μ-loop order n works₀ m k₀ works k = m - k
@@ -18,8 +18,8 @@ least-requires c κs = search needs
 loop-holds : tie.Need-loop-holds Inv-loop μ-loop
 loop-holds c = search needs
 
-byte-requires : tie.Need-byte-requires Inv-loop μ-loop
-byte-requires c κs = search needs
+word-requires : tie.Need-word-requires Inv-loop μ-loop
+word-requires c κs = search needs
 
 poke-requires : tie.Need-poke-requires Inv-loop μ-loop
 poke-requires c κs = search needs
@@ -47,7 +47,7 @@ remove-spec =
     μ-loop
     least-requires
     loop-holds
-    byte-requires
+    word-requires
     poke-requires
     add-k
     loop-less

@@ -7,13 +7,13 @@ use Rattle.test_studies.proofs.arcs.Statement.{statement}
 use Rattle.test_studies.proofs.arcs.Tie as tie
 
 abbrev Inv-loop : tie.InvT-loop
-Inv-loop seed n out₀ a i₀ out i = (i ≤ a) × (length out ≡ length out₀)
+Inv-loop seed n out₀ a i₀ out i = (n ≤ 200) × (a ≤ 1040) × (i ≤ a) × (length out ≡ length out₀)
 
 abbrev μ-loop : tie.MeasureT-loop
 μ-loop seed n out₀ a i₀ out i = a - i
 
-count-of-requires : tie.Need-count-of-requires Inv-loop μ-loop
-count-of-requires c κs = search needs
+arc-count-requires : tie.Need-arc-count-requires Inv-loop μ-loop
+arc-count-requires c κs = search needs
 
 loop-holds : tie.Need-loop-holds Inv-loop μ-loop
 loop-holds c = search needs
@@ -27,27 +27,6 @@ add-some c = search needs
 some-requires : tie.Need-some-requires Inv-loop μ-loop
 some-requires c κs = search needs
 
-mul-some-2 : tie.Need-mul-some-2 Inv-loop μ-loop
-mul-some-2 c = search needs
-
-add-some-2 : tie.Need-add-some-2 Inv-loop μ-loop
-add-some-2 c = search needs
-
-some-requires-2 : tie.Need-some-requires-2 Inv-loop μ-loop
-some-requires-2 c κs = search needs
-
-add-rarely : tie.Need-add-rarely Inv-loop μ-loop
-add-rarely c = search needs
-
-rarely-requires : tie.Need-rarely-requires Inv-loop μ-loop
-rarely-requires c κs = search needs
-
-add-rarely-2 : tie.Need-add-rarely-2 Inv-loop μ-loop
-add-rarely-2 c = search needs
-
-rarely-requires-2 : tie.Need-rarely-requires-2 Inv-loop μ-loop
-rarely-requires-2 c κs = search needs
-
 mul-poke : tie.Need-mul-poke Inv-loop μ-loop
 mul-poke c = search needs
 
@@ -60,8 +39,23 @@ mul-poke-2 c = search needs
 add-poke : tie.Need-add-poke Inv-loop μ-loop
 add-poke c = search needs
 
+to-of-requires : tie.Need-to-of-requires Inv-loop μ-loop
+to-of-requires c κs = search needs
+
 poke-requires-2 : tie.Need-poke-requires-2 Inv-loop μ-loop
 poke-requires-2 c κs = search needs
+
+mul-poke-3 : tie.Need-mul-poke-3 Inv-loop μ-loop
+mul-poke-3 c = search needs
+
+add-poke-2 : tie.Need-add-poke-2 Inv-loop μ-loop
+add-poke-2 c = search needs
+
+kind-of-requires : tie.Need-kind-of-requires Inv-loop μ-loop
+kind-of-requires c κs = search needs
+
+poke-requires-3 : tie.Need-poke-requires-3 Inv-loop μ-loop
+poke-requires-3 c κs = search needs
 
 add-i : tie.Need-add-i Inv-loop μ-loop
 add-i c = search needs
@@ -72,14 +66,20 @@ loop-less c = search needs
 loop-again : tie.Need-loop-again Inv-loop μ-loop
 loop-again c = search needs
 
-rarely-requires-3 : tie.Need-rarely-requires-3 Inv-loop μ-loop
-rarely-requires-3 c κs = search needs
+rarely-requires : tie.Need-rarely-requires Inv-loop μ-loop
+rarely-requires c κs = search needs
 
 mul-result : tie.Need-mul-result Inv-loop μ-loop
 mul-result c = search needs
 
 add-result : tie.Need-add-result Inv-loop μ-loop
 add-result c = search needs
+
+some-requires-2 : tie.Need-some-requires-2 Inv-loop μ-loop
+some-requires-2 c κs = search needs
+
+add-result-2 : tie.Need-add-result-2 Inv-loop μ-loop
+add-result-2 c = search needs
 
 same-length : tie.Need-same-length Inv-loop μ-loop
 same-length c = search needs
@@ -102,29 +102,29 @@ arcs-spec =
     (tie.spec
     Inv-loop
     μ-loop
-    count-of-requires
+    arc-count-requires
     loop-holds
     mul-some
     add-some
     some-requires
-    mul-some-2
-    add-some-2
-    some-requires-2
-    add-rarely
-    rarely-requires
-    add-rarely-2
-    rarely-requires-2
     mul-poke
     poke-requires
     mul-poke-2
     add-poke
+    to-of-requires
     poke-requires-2
+    mul-poke-3
+    add-poke-2
+    kind-of-requires
+    poke-requires-3
     add-i
     loop-less
     loop-again
-    rarely-requires-3
+    rarely-requires
     mul-result
     add-result
+    some-requires-2
+    add-result-2
     same-length
     returns
     mul-result-2

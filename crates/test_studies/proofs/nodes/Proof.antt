@@ -7,13 +7,13 @@ use Rattle.test_studies.proofs.nodes.Statement.{statement}
 use Rattle.test_studies.proofs.nodes.Tie as tie
 
 abbrev Inv-loop : tie.InvT-loop
-Inv-loop seed out₀ n v₀ out v = (v ≤ n) × (length out ≡ length out₀)
+Inv-loop seed out₀ n v₀ out v = (n ≤ 200) × (v ≤ n) × (length out ≡ length out₀)
 
 abbrev μ-loop : tie.MeasureT-loop
 μ-loop seed out₀ n v₀ out v = n - v
 
-count-of-requires : tie.Need-count-of-requires Inv-loop μ-loop
-count-of-requires c κs = search needs
+node-count-requires : tie.Need-node-count-requires Inv-loop μ-loop
+node-count-requires c κs = search needs
 
 loop-holds : tie.Need-loop-holds Inv-loop μ-loop
 loop-holds c = search needs
@@ -45,7 +45,7 @@ nodes-spec =
     (tie.spec
     Inv-loop
     μ-loop
-    count-of-requires
+    node-count-requires
     loop-holds
     class-requires
     poke-requires

@@ -1,4 +1,4 @@
--- The loop of `order` goes over the nodes, and has placed no more of them than it has passed. The slice keeps its length.
+-- The loop of `order` goes over the places. The slice keeps its length.
 use mathlib.Core.Path.{_≡_}
 use Prim.Native.Nat.{_-_, _≤_}
 use borrow.Author.Needs.{needs}
@@ -7,25 +7,13 @@ use Rattle.test_studies.proofs.order.Statement.{statement}
 use Rattle.test_studies.proofs.order.Tie as tie
 
 abbrev Inv-loop : tie.InvT-loop
-Inv-loop seed nodes class out₀ start k₀ v₀ out k v = (v ≤ length nodes) × (k ≤ v) × (length out ≡ length out₀)
+Inv-loop seed class n out₀ start k₀ out k = (class ≤ 2) × (n ≤ 20000) × (start ≤ 100000) × (k ≤ n) × (length out ≡ length out₀)
 
 abbrev μ-loop : tie.MeasureT-loop
-μ-loop seed nodes class out₀ start k₀ v₀ out k v = length nodes - v
+μ-loop seed class n out₀ start k₀ out k = n - k
 
 loop-holds : tie.Need-loop-holds Inv-loop μ-loop
 loop-holds c = search needs
-
-add-v : tie.Need-add-v Inv-loop μ-loop
-add-v c = search needs
-
-num-requires : tie.Need-num-requires Inv-loop μ-loop
-num-requires c κs = search needs
-
-loop-less : tie.Need-loop-less Inv-loop μ-loop
-loop-less c = search needs
-
-loop-again : tie.Need-loop-again Inv-loop μ-loop
-loop-again c = search needs
 
 mul-some : tie.Need-mul-some Inv-loop μ-loop
 mul-some c = search needs
@@ -63,14 +51,11 @@ poke-requires-2 c κs = search needs
 add-k : tie.Need-add-k Inv-loop μ-loop
 add-k c = search needs
 
-loop-less-2 : tie.Need-loop-less-2 Inv-loop μ-loop
-loop-less-2 c = search needs
+loop-less : tie.Need-loop-less Inv-loop μ-loop
+loop-less c = search needs
 
-loop-again-2 : tie.Need-loop-again-2 Inv-loop μ-loop
-loop-again-2 c = search needs
-
-add-result : tie.Need-add-result Inv-loop μ-loop
-add-result c = search needs
+loop-again : tie.Need-loop-again Inv-loop μ-loop
+loop-again c = search needs
 
 same-length : tie.Need-same-length Inv-loop μ-loop
 same-length c = search needs
@@ -85,10 +70,6 @@ order-spec =
     Inv-loop
     μ-loop
     loop-holds
-    add-v
-    num-requires
-    loop-less
-    loop-again
     mul-some
     add-some
     add-some-2
@@ -101,8 +82,7 @@ order-spec =
     add-poke-2
     poke-requires-2
     add-k
-    loop-less-2
-    loop-again-2
-    add-result
+    loop-less
+    loop-again
     same-length
     returns)

@@ -1,16 +1,16 @@
--- The loop of `rounds_of` makes eight rounds of at most 320 bytes.
+-- The loop of `rounds_of` goes over the eight rounds. The slice keeps its length.
 use mathlib.Core.Path.{_≡_}
 use Prim.Native.Nat.{_-_, _*_, _≤_}
-use lib.ListN.{length}
 use borrow.Author.Needs.{needs}
+use lib.ListN.{length}
 use Rattle.try_removal.proofs.rounds_of.Statement.{statement}
 use Rattle.try_removal.proofs.rounds_of.Tie as tie
 
 abbrev Inv-loop : tie.InvT-loop
-Inv-loop seed nodes rounds₀ at₀ r₀ rounds at r = (r ≤ 8) × (at ≤ 320 * r) × (length rounds ≡ length rounds₀)
+Inv-loop seed n1 n2 rounds₀ at₀ r₀ rounds at r = (n1 ≤ 64) × (n2 ≤ 64) × (r ≤ 8) × (at ≤ 128 * r) × (length rounds ≡ length rounds₀)
 
 abbrev μ-loop : tie.MeasureT-loop
-μ-loop seed nodes rounds₀ at₀ r₀ rounds at r = 8 - r
+μ-loop seed n1 n2 rounds₀ at₀ r₀ rounds at r = 8 - r
 
 loop-holds : tie.Need-loop-holds Inv-loop μ-loop
 loop-holds c = search needs

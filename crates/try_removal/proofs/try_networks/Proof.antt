@@ -1,16 +1,16 @@
--- The loop of `try_networks` goes over the networks.
+-- The loop of `try_networks` goes over the networks. The counts keep their length.
 use mathlib.Core.Path.{_≡_}
 use Prim.Native.Nat.{_-_, _≤_}
-use lib.ListN.{length}
 use borrow.Author.Needs.{needs}
+use lib.ListN.{length}
 use Rattle.try_removal.proofs.try_networks.Statement.{statement}
 use Rattle.try_removal.proofs.try_networks.Tie as tie
 
 abbrev Inv-loop : tie.InvT-loop
-Inv-loop counts₀ i₀ counts i = (i ≤ 400) × (length counts ≡ length counts₀)
+Inv-loop counts₀ i₀ counts i = (i ≤ 560) × (length counts ≡ length counts₀)
 
 abbrev μ-loop : tie.MeasureT-loop
-μ-loop counts₀ i₀ counts i = 400 - i
+μ-loop counts₀ i₀ counts i = 560 - i
 
 loop-holds : tie.Need-loop-holds Inv-loop μ-loop
 loop-holds c = search needs
@@ -20,6 +20,9 @@ seed-requires c κs = search needs
 
 kind-of-requires : tie.Need-kind-of-requires Inv-loop μ-loop
 kind-of-requires c κs = search needs
+
+add-try-network : tie.Need-add-try-network Inv-loop μ-loop
+add-try-network c = search needs
 
 try-network-requires : tie.Need-try-network-requires Inv-loop μ-loop
 try-network-requires c κs = search needs
@@ -48,6 +51,7 @@ try-networks-spec =
     loop-holds
     seed-requires
     kind-of-requires
+    add-try-network
     try-network-requires
     add-i
     loop-less

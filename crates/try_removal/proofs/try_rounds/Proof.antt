@@ -1,16 +1,16 @@
--- The loop of `try_rounds` goes over the eight rounds.
+-- The loop of `try_rounds` goes over the eight rounds. The slices keep their lengths.
 use mathlib.Core.Path.{_≡_}
 use Prim.Native.Nat.{_-_, _≤_}
-use lib.ListN.{length}
 use borrow.Author.Needs.{needs}
+use lib.ListN.{length}
 use Rattle.try_removal.proofs.try_rounds.Statement.{statement}
 use Rattle.try_removal.proofs.try_rounds.Tie as tie
 
 abbrev Inv-loop : tie.InvT-loop
-Inv-loop net file arcs rounds small fronts₀ tables₀ counts₀ r₀ fronts tables counts r = (r ≤ 8) × (length fronts ≡ length fronts₀) × (length tables ≡ length tables₀) × (length counts ≡ length counts₀)
+Inv-loop c file nodes arcs rounds found₀ counts₀ r₀ found counts r = (c .net .nodes ≤ 10000) × (c .n1 ≤ 64) × (c .n2 ≤ 64) × (r ≤ 8) × (length found ≡ length found₀) × (length counts ≡ length counts₀)
 
 abbrev μ-loop : tie.MeasureT-loop
-μ-loop net file arcs rounds small fronts₀ tables₀ counts₀ r₀ fronts tables counts r = 8 - r
+μ-loop c file nodes arcs rounds found₀ counts₀ r₀ found counts r = 8 - r
 
 loop-holds : tie.Need-loop-holds Inv-loop μ-loop
 loop-holds c = search needs
@@ -54,9 +54,6 @@ same-length c = search needs
 same-length-2 : tie.Need-same-length-2 Inv-loop μ-loop
 same-length-2 c = search needs
 
-same-length-3 : tie.Need-same-length-3 Inv-loop μ-loop
-same-length-3 c = search needs
-
 returns : tie.Need-returns Inv-loop μ-loop
 returns c = search needs
 
@@ -80,5 +77,4 @@ try-rounds-spec =
     loop-again
     same-length
     same-length-2
-    same-length-3
     returns)

@@ -1,4 +1,4 @@
--- The loop of `run` makes 3000 turns. The three slices keep their lengths.
+-- The loop of `run` makes 6000 turns. The counts keep their length.
 use mathlib.Core.Path.{_≡_}
 use Prim.Native.Nat.{_-_, _≤_}
 use borrow.Author.Needs.{needs}
@@ -7,10 +7,10 @@ use Rattle.try_studies.proofs.run.Statement.{statement}
 use Rattle.try_studies.proofs.run.Tie as tie
 
 abbrev Inv-loop : tie.InvT-loop
-Inv-loop writes₀ opens₀ looks₀ i₀ writes opens looks i = (i ≤ 3000) × (length writes ≡ length writes₀) × (length opens ≡ length opens₀) × (length looks ≡ length looks₀)
+Inv-loop counts₀ i₀ counts i = (i ≤ 6000) × (length counts ≡ length counts₀)
 
 abbrev μ-loop : tie.MeasureT-loop
-μ-loop writes₀ opens₀ looks₀ i₀ writes opens looks i = 3000 - i
+μ-loop counts₀ i₀ counts i = 6000 - i
 
 loop-holds : tie.Need-loop-holds Inv-loop μ-loop
 loop-holds c = search needs
@@ -33,12 +33,6 @@ loop-again c = search needs
 same-length : tie.Need-same-length Inv-loop μ-loop
 same-length c = search needs
 
-same-length-2 : tie.Need-same-length-2 Inv-loop μ-loop
-same-length-2 c = search needs
-
-same-length-3 : tie.Need-same-length-3 Inv-loop μ-loop
-same-length-3 c = search needs
-
 returns : tie.Need-returns Inv-loop μ-loop
 returns c = search needs
 
@@ -55,6 +49,4 @@ run-spec =
     loop-less
     loop-again
     same-length
-    same-length-2
-    same-length-3
     returns)

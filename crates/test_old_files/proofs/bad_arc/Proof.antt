@@ -1,0 +1,55 @@
+-- The loop of `bad_arc` goes up to the length, two bytes a turn.
+use Prim.Native.Nat.{_+_, _-_, _≤_}
+use borrow.Author.Needs.{needs}
+use lib.ListN.{length}
+use Rattle.test_old_files.proofs.bad_arc.Statement.{statement}
+use Rattle.test_old_files.proofs.bad_arc.Tie as tie
+
+abbrev Inv-loop : tie.InvT-loop
+Inv-loop arcs n i₀ i = (1 ≤ i) × (i ≤ length arcs + 1)
+
+abbrev μ-loop : tie.MeasureT-loop
+μ-loop arcs n i₀ i = length arcs + 1 - i
+
+loop-holds : tie.Need-loop-holds Inv-loop μ-loop
+loop-holds c = search needs
+
+sub-num : tie.Need-sub-num Inv-loop μ-loop
+sub-num c = search needs
+
+num-requires : tie.Need-num-requires Inv-loop μ-loop
+num-requires c κs = search needs
+
+num-requires-2 : tie.Need-num-requires-2 Inv-loop μ-loop
+num-requires-2 c κs = search needs
+
+returns : tie.Need-returns Inv-loop μ-loop
+returns c = search needs
+
+add-i : tie.Need-add-i Inv-loop μ-loop
+add-i c = search needs
+
+loop-less : tie.Need-loop-less Inv-loop μ-loop
+loop-less c = search needs
+
+loop-again : tie.Need-loop-again Inv-loop μ-loop
+loop-again c = search needs
+
+returns-2 : tie.Need-returns-2 Inv-loop μ-loop
+returns-2 c = search needs
+
+pub bad-arc-spec : {M : Type 1} → statement M
+bad-arc-spec =
+    tie.close
+    (tie.spec
+    Inv-loop
+    μ-loop
+    loop-holds
+    sub-num
+    num-requires
+    num-requires-2
+    returns
+    add-i
+    loop-less
+    loop-again
+    returns-2)
