@@ -15,9 +15,9 @@
  * while the call runs. Nothing is asked of the contents or of the numbers: any are judged.
  *
  * No call keeps a pointer, allocates, or has any state: calls from several threads may run at once.
- * Bytes of stack a call takes, compiled for x86-64 (bench/stack): search 3,776, reliability 488,
- * write 384, series 360, parallel 344, tally_remove 248, tally_add and round 216, open 200, weights 56,
- * tally_new 32, ageing 8; memset and memcpy come to that.
+ * Bytes of stack a call takes, compiled for x86-64 (bench/stack): search 18,528, convert 736, write 576,
+ * reliability 488, round 392, open 376, series 360, parallel 344, tally_remove 248, tally_add 216,
+ * weights 56, tally_new 32, ageing 8; memset and memcpy come to that.
  */
 #ifndef MEDLARBRACE_H
 #define MEDLARBRACE_H
