@@ -12,7 +12,7 @@ use Rattle.limits.specs.Limits.{arcSize, maxKind}
 use Rattle.laws.specs.Every.{every-at}
 use Rattle.laws.specs.Sums.{sumTo}
 use Rattle.laws.specs.Tests.{flag, or-none, equal}
-use Rattle.parts.specs.Steps.{Looked, arcTest, fromField, toField, kindField, fieldLimit, fieldsOf, blockSize, blockBytes, blockFields, Added}
+use Rattle.parts.specs.Steps.{Looked, arcTest, fromField, toField, kindField, fieldLimit, fieldsOf, blockSize, blockBytes, blockFields, GoodBlock}
 use Rattle.parts.proofs.Scans.{entryAt}
 use Rattle.parts.proofs.Arcs.{looked-next}
 
@@ -161,7 +161,7 @@ module _ (n : ℕ) (fields l : List ℕ) (i : ℕ) (known : Fields fields) (room
   entries-added (suc m) m1 m2 h k = entry-added m (omega arith) m1 m2 (entries-added m m1 m2 (omega arith) k)
 
 pub block-added : (n : ℕ) (fields l : List ℕ) (i n1 n2 : ℕ) → fields ≡ blockFields → arcSize * (i + blockSize) < length l → NoneBad n fields l (arcSize * i) blockBytes
-    → n1 ≡ sumTo blockBytes (class1At fields l (arcSize * i)) → n2 ≡ sumTo blockBytes (class2At fields l (arcSize * i)) → Added n l i n1 n2
+    → n1 ≡ sumTo blockBytes (class1At fields l (arcSize * i)) → n2 ≡ sumTo blockBytes (class2At fields l (arcSize * i)) → GoodBlock n l i n1 n2
 block-added n fields l i n1 n2 f room fine e1 e2 m1 m2 k =
     let known : Fields fields = λ m h. rw f (fields-at blockSize m h) in
     rw (e1, e2) (entries-added n fields l i known room fine blockSize m1 m2 (omega arith) k)

@@ -82,5 +82,5 @@ abbrev pub blockFields : List ℕ
 blockFields = fieldsOf blockSize
 
 -- the entries of the block from i on are good too, and n1 and n2 of them are of classes 1 and 2
-abbrev pub Added : ℕ → List ℕ → ℕ → ℕ → ℕ → Type 0
-Added n l i n1 n2 = (m1 m2 : ℕ) → Looked n l i m1 m2 → Looked n l (i + blockSize) (m1 + n1) (m2 + n2)
+abbrev pub GoodBlock : ℕ → List ℕ → ℕ → ℕ → ℕ → Type 0
+GoodBlock n l i n1 n2 = (m1 m2 : ℕ) → Looked n l i m1 m2 → Looked n l (i + blockSize) (m1 + n1) (m2 + n2)

@@ -24,7 +24,7 @@ ghost use Rattle.answer.specs.Outcome.{outcome};
 ghost use Rattle.orders.specs.Order.{count, isOrder, isOrderOf};
 ghost use Rattle.parts.specs.Study.{entryClass, entriesFrom, elements, pieces};
 ghost use Rattle.parts.specs.Tests.{badCounts, badEnds, badClasses, badArc, badArcs, partTests};
-ghost use Rattle.parts.specs.Steps.{sizesOf, arcTests, counted, Looked, fieldLimit, blockSize, blockBytes, blockFields, Added};
+ghost use Rattle.parts.specs.Steps.{sizesOf, arcTests, counted, Looked, fieldLimit, blockSize, blockBytes, blockFields, GoodBlock};
 
 // What the tests of nodes and arcs find: n1 and n2, or a refusal.
 pub enum Counted {
@@ -116,7 +116,7 @@ fn look(n: u8, fields: &[u8], arcs: &[u8], i: usize) -> Block
     requires fields { ⌜ now fields ≡ blockFields ⌝ }
     requires room { ⌜ arcSize * (i + blockSize) < length (now arcs) ⌝ }
     ensures few { λ r. ⌜ (r .n1 ≤ blockBytes) × (r .n2 ≤ blockBytes) ⌝ }
-    ensures good { λ r. ⌜ (r .bad ≡ false → Added n (now (arcs .entry)) i (r .n1) (r .n2)) ⌝ }
+    ensures good { λ r. ⌜ (r .bad ≡ false → GoodBlock n (now (arcs .entry)) i (r .n1) (r .n2)) ⌝ }
 {
     let at = ARC * i;
     let mut bad = false;
