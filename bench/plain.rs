@@ -1,6 +1,8 @@
 //! Tallies and reliability in plain Rust, with the tests of documents 01 and 02.
 
-const HEAD: usize = 3;
+/// The words in front of the cells: n1, n2, M, score.
+pub const HEAD: usize = 4;
+const SCORE: usize = 3;
 
 fn is_record(r: &[u8]) -> bool {
     if r.len() < 3 || r[0] > 64 || r[1] > 64 || r[2] > r[0].min(r[1]) + 1 || r.len() != 3 + 2 * r[2] as usize {
@@ -16,29 +18,35 @@ fn is_record(r: &[u8]) -> bool {
     true
 }
 
-/// Cell by cell, left at the first that is above M, the cell below it or its neighbour.
-pub fn by_cells(cells: &[u32], n1: usize, n2: usize, m: u32) -> bool {
+/// Cell by cell, left at the first that is above M, the cell below it or its neighbour; then the score.
+pub fn by_cells(cells: &[u32], n1: usize, n2: usize, m: u32, score: u32) -> bool {
     let w = n2 + 1;
+    let mut sum = 0u64;
     for l1 in 0..=n1 {
         for l2 in 0..=n2 {
             let i = l1 * w + l2;
             if cells[i] > m || (l1 < n1 && cells[i] > cells[i + w]) || (l2 < n2 && cells[i] > cells[i + 1]) {
                 return false;
             }
+            sum += cells[i] as u64;
         }
     }
-    true
+    sum == score as u64
 }
 
-/// The library's own test: the last cell, and two passes over neighbours that are not left early.
-pub fn by_passes(cells: &[u32], n1: usize, n2: usize, m: u32) -> bool {
+/// The library's own test: the last cell, and two passes over neighbours that are not left early. The pass from row to row sums
+/// all cells but the last row's, in 32 bits: exact where no cell is above M.
+pub fn by_passes(cells: &[u32], n1: usize, n2: usize, m: u32, score: u32) -> bool {
     let w = n2 + 1;
     let rise = |x: &[u32], y: &[u32]| x.iter().zip(y).fold(true, |all, (a, b)| all & (a <= b));
     let cells = &cells[..(n1 + 1) * w];
-    (cells[n1 * w + n2] <= m) & rise(&cells[..n1 * w], &cells[w..]) & cells.chunks_exact(w).fold(true, |all, row| all & rise(&row[..n2], &row[1..]))
+    let (rest, last) = cells.split_at(n1 * w);
+    let (columns, sum) = rest.iter().zip(&cells[w..]).fold((true, 0u32), |(all, sum), (a, b)| (all & (a <= b), sum.wrapping_add(*a)));
+    let sum = last.iter().fold(sum, |sum, a| sum.wrapping_add(*a));
+    (last[n2] <= m) & columns & cells.chunks_exact(w).fold(true, |all, row| all & rise(&row[..n2], &row[1..])) & (sum == score)
 }
 
-type Sound = fn(&[u32], usize, usize, u32) -> bool;
+type Sound = fn(&[u32], usize, usize, u32, u32) -> bool;
 
 fn state(tally: &[u32], sound: Sound) -> u32 {
     if tally.len() < HEAD {
@@ -51,7 +59,7 @@ fn state(tally: &[u32], sound: Sound) -> u32 {
     if tally.len() < HEAD + (n1 + 1) * (n2 + 1) {
         return 21;
     }
-    if tally[2] > 100_000 || !sound(&tally[HEAD..], n1, n2, tally[2]) {
+    if tally[2] > 100_000 || !sound(&tally[HEAD..], n1, n2, tally[2], tally[SCORE]) {
         return 22;
     }
     0
@@ -84,13 +92,17 @@ fn heights(record: &[u8], n1: usize) -> impl Iterator<Item = usize> + '_ {
     })
 }
 
+/// M and each cell where the record holds changed by 1, and the score by the number of these cells.
 #[inline(always)]
-fn change(record: &[u8], tally: &mut [u32], step: impl Fn(&mut u32)) {
+fn change(record: &[u8], tally: &mut [u32], step: impl Fn(&mut u32, u32)) {
     let (n1, w) = (tally[0] as usize, tally[1] as usize + 1);
-    step(&mut tally[2]);
+    step(&mut tally[2], 1);
+    let mut count = 0;
     for (row, height) in tally[HEAD..HEAD + (n1 + 1) * w].chunks_exact_mut(w).zip(heights(record, n1)) {
-        row[w - height..].iter_mut().for_each(&step);
+        row[w - height..].iter_mut().for_each(|x| step(x, 1));
+        count += height as u32;
     }
+    step(&mut tally[SCORE], count);
 }
 
 #[inline(always)]
@@ -102,7 +114,7 @@ pub fn add(record: &[u8], tally: &mut [u32], sound: Sound) -> u32 {
     if tally[2] == 100_000 {
         return 24;
     }
-    change(record, tally, |x| *x += 1);
+    change(record, tally, |x, n| *x += n);
     0
 }
 
@@ -119,9 +131,9 @@ pub fn remove_and_test(record: &[u8], tally: &mut [u32], sound: Sound) -> u32 {
     if tally[2] == 0 || !rows.zip(heights(record, n1)).all(|(row, height)| row[w - height..].iter().all(|&x| 0 < x)) {
         return 31;
     }
-    change(record, tally, |x| *x -= 1);
-    if !sound(&tally[HEAD..], n1, n2, tally[2]) {
-        change(record, tally, |x| *x += 1);
+    change(record, tally, |x, n| *x -= n);
+    if !sound(&tally[HEAD..], n1, n2, tally[2], tally[SCORE]) {
+        change(record, tally, |x, n| *x += n);
         return 31;
     }
     0
@@ -156,7 +168,7 @@ pub fn remove_by_edge(record: &[u8], tally: &mut [u32], sound: Sound) -> u32 {
     if !(rows & columns.0 & (record[2] > 0 || cells[h * w - 1] < tally[2])) {
         return 31;
     }
-    change(record, tally, |x| *x -= 1);
+    change(record, tally, |x, n| *x -= n);
     0
 }
 

@@ -9,11 +9,12 @@ extern "C" {
     fn medlarbrace_tally_new(n1: u32, n2: u32, tally: *mut u32, tally_len: usize) -> u32;
     fn medlarbrace_tally_add(record: *const u8, record_len: usize, tally: *mut u32, tally_len: usize) -> u32;
     fn medlarbrace_tally_remove(record: *const u8, record_len: usize, tally: *mut u32, tally_len: usize) -> u32;
+    fn medlarbrace_tally_score(tally: *const u32, tally_len: usize, score: *mut u32) -> u32;
     fn medlarbrace_reliability(tally: *const u32, tally_len: usize, chance1: u32, chance2: u32, sum: *mut u64, rounds: *mut u64, reliability: *mut u64) -> u32;
 }
 
 const N: usize = 64;
-const WORDS: usize = 3 + (N + 1) * (N + 1);
+const WORDS: usize = plain::HEAD + (N + 1) * (N + 1);
 const CALLS: usize = 500;
 const REPEATS: usize = 31;
 
@@ -27,6 +28,12 @@ fn library_add(record: &[u8], tally: &mut Tally) -> u32 {
 
 fn library_remove(record: &[u8], tally: &mut Tally) -> u32 {
     unsafe { medlarbrace_tally_remove(record.as_ptr(), record.len(), tally.as_mut_ptr(), tally.len()) }
+}
+
+fn library_score(tally: &Tally) -> u32 {
+    let mut score = 0;
+    assert_eq!(0, unsafe { medlarbrace_tally_score(tally.as_ptr(), tally.len(), &mut score) });
+    score
 }
 
 fn library_rate(tally: &Tally, p1: u32, p2: u32) -> Result<[u64; 3], u32> {
@@ -89,7 +96,10 @@ fn moves(k: usize, rng: &mut Rng) -> Tally {
         timed(ADDS[i], &records, &mut tallies[i]);
         timed(ADDS[i], &records, &mut tallies[i]);
     }
-    let same = |tallies: &[Tally; 3]| assert!(tallies[0] == tallies[1] && tallies[1] == tallies[2], "the three tallies differ");
+    let same = |tallies: &[Tally; 3]| {
+        assert!(tallies[0] == tallies[1] && tallies[1] == tallies[2], "the three tallies differ");
+        assert_eq!(library_score(&tallies[0]), tallies[0][plain::HEAD..].iter().sum(), "the score is not the sum of the cells");
+    };
     for _ in 0..REPEATS {
         for i in 0..3 {
             removed[i].push(timed(REMOVES[i], &records, &mut tallies[i]));

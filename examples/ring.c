@@ -1,5 +1,5 @@
-/* The sample ring: written, searched, with a pipe that fails, converted from its old file, joined, tallied, a front taken
- * back, and its reliability by age.
+/* The sample ring: written, searched, with a pipe that fails, converted from its old file, joined, tallied with its score, a
+ * front taken back, and its reliability by age.
  *
  *     examples/run-c [FILE]
  *
@@ -50,9 +50,17 @@ static void print_counts(const uint32_t *tally)
     for (uint32_t l1 = 0; l1 <= n1; l1++) {
         printf("count %" PRIu32 ":", l1);
         for (uint32_t l2 = 0; l2 <= n2; l2++)
-            printf(" %" PRIu32, tally[3 + l1 * (n2 + 1) + l2]);
+            printf(" %" PRIu32, tally[4 + l1 * (n2 + 1) + l2]);
         printf("\n");
     }
+}
+
+/* the sum of all cells: one number to watch while rounds come in */
+static void print_score(const char *when, const uint32_t *tally)
+{
+    uint32_t score;
+    must(medlarbrace_tally_score(tally, MEDLARBRACE_TALLY_WORDS, &score), "tally_score");
+    printf("score, %s: %" PRIu32 "\n", when, score);
 }
 
 static void save(const char *path, const uint8_t *file, size_t length)
@@ -130,9 +138,12 @@ int main(int argc, char **argv)
 
     must(medlarbrace_tally_new(front[0], front[1], tally, MEDLARBRACE_TALLY_WORDS), "tally_new");
     must(medlarbrace_tally_add(front, searched, tally, MEDLARBRACE_TALLY_WORDS), "tally_add");
+    print_score("one front", tally);
     /* the other block's front was added by mistake, and is taken back */
     must(medlarbrace_tally_add(other, sizeof other, tally, MEDLARBRACE_TALLY_WORDS), "tally_add");
+    print_score("two fronts", tally);
     must(medlarbrace_tally_remove(other, sizeof other, tally, MEDLARBRACE_TALLY_WORDS), "tally_remove");
+    print_score("one taken back", tally);
     print_counts(tally);
 
     must(medlarbrace_weights(2, 900000, weights, 3), "weights");

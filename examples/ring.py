@@ -1,5 +1,5 @@
-"""The sample ring: written, searched, with a pipe that fails, converted from its old file, joined, tallied, a front taken
-back, and its reliability by age.
+"""The sample ring: written, searched, with a pipe that fails, converted from its old file, joined, tallied with its score, a
+front taken back, and its reliability by age.
 
     examples/run-python [FILE]
 
@@ -28,6 +28,7 @@ CALLS = {
     "tally_new": [WORD, WORD] + WORD_SLICE,
     "tally_add": SLICE + WORD_SLICE,
     "tally_remove": SLICE + WORD_SLICE,
+    "tally_score": WORD_SLICE + [TO_WORD],
     "ageing": [LONG, TO_WORD],
     "weights": [WORD, WORD] + WORD_SLICE,
     "reliability": WORD_SLICE + [WORD, WORD] + [TO_LONG] * 3,
@@ -39,7 +40,7 @@ for name, types in CALLS.items():
 OLD_FILE = bytes([0, 0, 1, 1, 2, 2, 0, 2, 2, 4, 4, 1, 0, 3, 3, 1, 0, 5, 5, 1, 3, 2, 5, 4])
 OLD_FILE += b"".join(word.to_bytes(4, "little") for word in (6, 7, 1, 0, 1, 24, 18, 4))
 
-HEADER_WORDS, RECORD_BYTES, TALLY_WORDS = 7, 133, 4228
+HEADER_WORDS, RECORD_BYTES, TALLY_WORDS = 7, 133, 4229
 
 
 class Refused(Exception):
@@ -91,11 +92,10 @@ def record(name, *arguments):
     return bytes(out[: written.value])
 
 
-def tallied(n1, n2, records):
+def fresh(n1, n2):
+    """A tally of no rounds."""
     tally = (WORD * TALLY_WORDS)()
     call("tally_new", n1, n2, tally, TALLY_WORDS)
-    for each in records:
-        add(tally, each)
     return tally
 
 
@@ -105,6 +105,13 @@ def add(tally, front):
 
 def take_back(tally, front):
     call("tally_remove", *lent(front), tally, TALLY_WORDS)
+
+
+def score(tally):
+    """The sum of all cells: one number to watch while rounds come in."""
+    out = WORD()
+    call("tally_score", tally, TALLY_WORDS, out)
+    return out.value
 
 
 def chance_at(age):
@@ -133,7 +140,7 @@ def print_counts(tally):
     """The cells by l1, the number of class 1 stations that work, and within a line by l2."""
     n1, n2 = tally[0], tally[1]
     for l1 in range(n1 + 1):
-        row = 3 + l1 * (n2 + 1)
+        row = 4 + l1 * (n2 + 1)
         print(f"count {l1}:", *tally[row : row + n2 + 1])
 
 
@@ -169,9 +176,14 @@ def main():
     print_pairs("row", record("series", *lent(front), *lent(other)))
     print_pairs("side", record("parallel", *lent(front), *lent(other)))
 
+    tally = fresh(n1, n2)
+    add(tally, front)
+    print("score, one front:", score(tally))
     # the other block's front was added by mistake, and is taken back
-    tally = tallied(n1, n2, [front, other])
+    add(tally, other)
+    print("score, two fronts:", score(tally))
     take_back(tally, other)
+    print("score, one taken back:", score(tally))
     print_counts(tally)
     print("weights of 2 at 0.9:", *weights(2, 900000))
     for age in range(31):

@@ -15,9 +15,9 @@
  * while the call runs. Nothing is asked of the contents or of the numbers: any are judged.
  *
  * No call keeps a pointer, allocates, or has any state: calls from several threads may run at once.
- * Bytes of stack a call takes, compiled for x86-64 (bench/stack): search 18,528, convert 736, write 576,
- * reliability 488, round 392, open 376, series 360, parallel 344, tally_remove 248, tally_add 216,
- * weights 56, tally_new 32, ageing 8; memset and memcpy come to that.
+ * Bytes of stack a call takes, compiled for x86-64 (bench/stack): search 18,528, convert 736,
+ * reliability 680, write 576, round 392, open 376, series 360, parallel 344, tally_remove 312,
+ * tally_add 280, weights 56, tally_new 32, ageing 8, tally_score 8; memset and memcpy come to that.
  */
 #ifndef MEDLARBRACE_H
 #define MEDLARBRACE_H
@@ -29,11 +29,11 @@
 extern "C" {
 #endif
 
-/* The version of this interface: the major grows where a call's parameters, its numbers or the study
- * file change. CHANGELOG.md says what a caller edits. */
-#define MEDLARBRACE_VERSION_MAJOR 3
+/* The version of this interface: the major grows where a call's parameters, its numbers, the study
+ * file or the tally's words change. CHANGELOG.md says what a caller edits. */
+#define MEDLARBRACE_VERSION_MAJOR 4
 #define MEDLARBRACE_VERSION_MINOR 0
-#define MEDLARBRACE_VERSION "3.0"
+#define MEDLARBRACE_VERSION "4.0"
 
 /* Why a call refuses. 7 was given up to version 1.0 and is not used again. */
 enum {
@@ -52,7 +52,7 @@ enum {
     MEDLARBRACE_CHANCE = 14,        /* a chance above 1,000,000, or an age above 30 */
     MEDLARBRACE_OUTPUT_SHORT = 15,  /* an output slice too short */
     MEDLARBRACE_TALLY_SHORT = 21,   /* a tally slice too short */
-    MEDLARBRACE_TALLY_UNSOUND = 22, /* a tally that is not sound: no calls can have left it */
+    MEDLARBRACE_TALLY_UNSOUND = 22, /* a tally that is not sound: no calls can have left it; also where the score is not the cells' sum */
     MEDLARBRACE_TALLY_SIZES = 23,   /* a tally of other class sizes than the record */
     MEDLARBRACE_TALLY_FULL = 24,    /* a tally of 100,000 rounds already */
     MEDLARBRACE_NO_ROUNDS = 25,     /* a tally of no rounds where reliability is wanted */
@@ -63,7 +63,7 @@ enum {
 /* Slices that suffice for any study. */
 #define MEDLARBRACE_HEADER_WORDS 7     /* of medlarbrace_open */
 #define MEDLARBRACE_RECORD_BYTES 133   /* 3 + 2 x 65 */
-#define MEDLARBRACE_TALLY_WORDS 4228   /* 3 + 65 x 65 */
+#define MEDLARBRACE_TALLY_WORDS 4229   /* 4 + 65 x 65 */
 #define MEDLARBRACE_WEIGHTS_WORDS 65
 
 /* ---- study files. An arc is three bytes: from, to, kind. Kinds 0, 1, 2 lead one way, kinds 3, 4, 5
@@ -112,25 +112,35 @@ uint32_t medlarbrace_series(const uint8_t *left, size_t left_len, const uint8_t 
  * Refusals: 12, 13, 15. */
 uint32_t medlarbrace_parallel(const uint8_t *left, size_t left_len, const uint8_t *right, size_t right_len, uint8_t *record, size_t record_len, uint64_t *written);
 
-/* ---- tallies: n1, n2, M, and then (n1 + 1)(n2 + 1) cells, by l1 and within it by l2: in how many
- * of the M fronts the network holds while l1 members of class 1 and l2 of class 2 work. The cell of
- * (l1, l2) is tally[3 + l1 * (n2 + 1) + l2]; 4,228 words suffice for any sizes. */
+/* ---- tallies: n1, n2, M, the score, and then (n1 + 1)(n2 + 1) cells, by l1 and within it by l2: in
+ * how many of the M fronts the network holds while l1 members of class 1 and l2 of class 2 work. The
+ * score is the sum of all cells. The cell of (l1, l2) is tally[4 + l1 * (n2 + 1) + l2]; 4,229 words
+ * suffice for any sizes. */
 
 /* A tally of no rounds; the slice may have held anything.
  * Refusals: 6, 21. */
 uint32_t medlarbrace_tally_new(uint32_t n1, uint32_t n2, uint32_t *tally, size_t tally_len);
 
-/* Adds a front: M grows by 1, and each cell where the front holds by 1.
+/* Adds a front: M grows by 1, each cell where the front holds by 1, and the score by the number of
+ * these cells.
  * Refusals: 12, 21 to 24. */
 uint32_t medlarbrace_tally_add(const uint8_t *record, size_t record_len, uint32_t *tally, size_t tally_len);
 
-/* Takes a front out again: M falls by 1, and each cell where the front holds by 1. A front that was
- * added and not yet taken out can always be taken out, whatever was added or taken out since; the
- * tally is then that of the fronts that remain. Adding it back restores every word. A tally has no
- * names: a front that was never added is taken out too where what is left is sound.
+/* Takes a front out again: M falls by 1, each cell where the front holds by 1, and the score by the
+ * number of these cells. A front that was added and not yet taken out can always be taken out,
+ * whatever was added or taken out since; the tally is then that of the fronts that remain. Adding it
+ * back restores every word. A tally has no names: a front that was never added is taken out too where
+ * what is left is sound.
  * Refusals: 12, 21 to 23, and 31 where M or a cell to be lowered is 0, or what would be left is not
  * sound. */
 uint32_t medlarbrace_tally_remove(const uint8_t *record, size_t record_len, uint32_t *tally, size_t tally_len);
+
+/* The score, through `score`: the sum of all cells, one number to watch while rounds come in. It is
+ * the fourth word as it stands: no cell is read and soundness is not tested, so a slice that is no
+ * tally gives whatever that word is. After tally_new, whatever is then added and taken out, refused
+ * calls too, it is the sum, as long as nothing else changes the tally.
+ * Refusals: 21 where tally_len is under 4. */
+uint32_t medlarbrace_tally_score(const uint32_t *tally, size_t tally_len, uint32_t *score);
 
 /* ---- chances, in millionths: that one member of the class works */
 

@@ -11,12 +11,14 @@ use Rattle.answer.specs.declared.Done.{Done}
 use Rattle.answer.specs.declared.Header.{Header}
 use Rattle.answer.specs.declared.Opened.{Opened}
 use Rattle.answer.specs.declared.Aged.{Aged}
+use Rattle.answer.specs.declared.Scored.{Scored}
 use Rattle.answer.specs.declared.Rated.{Rated}
 use Rattle.answer.specs.declared.Refusal.the-variants as refusal
 use Rattle.answer.specs.declared.Written.the-variants as written-as
 use Rattle.answer.specs.declared.Done.the-variants as done-as
 use Rattle.answer.specs.declared.Opened.the-variants as opened-as
 use Rattle.answer.specs.declared.Aged.the-variants as aged-as
+use Rattle.answer.specs.declared.Scored.the-variants as scored-as
 use Rattle.answer.specs.declared.Rated.the-variants as rated-as
 
 -- a success and its values, or a refusal and its number
@@ -96,6 +98,11 @@ opened (opened-as.Refused r) = refused (numberOf r)
 abbrev pub aged : Aged → Outcome
 aged (aged-as.Chance p) = success (p ∷ [])
 aged (aged-as.Refused r) = refused (numberOf r)
+
+-- score: a tally's fourth word (02, S-5)
+abbrev pub scored : Scored → Outcome
+scored (scored-as.Score n) = success (n ∷ [])
+scored (scored-as.Refused r) = refused (numberOf r)
 
 -- reliability: S, M and R
 abbrev pub rated : Rated → Outcome

@@ -85,6 +85,12 @@ pub enum Aged {
     Refused(Refusal),
 }
 
+// The answer of score: the sum of a tally's cells.
+pub enum Scored {
+    Score(u32),
+    Refused(Refusal),
+}
+
 // What reliability finds: document 01's S, M, R.
 pub struct Rate {
     pub sum: u64,

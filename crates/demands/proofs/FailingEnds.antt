@@ -22,7 +22,7 @@ use Rattle.sections.specs.File.{trailer, nodesOf, arcsOf, studyOf}
 use Rattle.study.specs.Calls.{badRounds, badNumber, badOrders, trailerTests, openedRounds, openedSize1, openedSize2, openTests, openValues, openAnswer, checkTests, roundTests}
 use Rattle.writer.specs.Writer.{Given, meant, studyBytes, badRoundBytes, badGivenOrders, countTests, givenTests}
 use Rattle.compose.specs.Compose.{seriesBytes, parallelBytes, recordTests}
-use Rattle.tally.specs.Calls.{newTests, addTests, removeTests}
+use Rattle.tally.specs.Calls.{newTests, addTests, removeTests, scoreTests}
 use Rattle.weights.specs.Calls.{weightsTests}
 use Rattle.reliability.specs.Calls.{rateTests}
 use Rattle.network.specs.Walk.{visits}
@@ -155,6 +155,7 @@ request1 =
       fresh-7 = λ c e. outcome-never 7 (newTests (call.newSize1 c) (call.newSize2 c) (length (call.newLent c))) (0 ∷ []) tt (sym (c .kept .0) ∙ e);
       add-7 = λ c e. outcome-never 7 (addTests (call.addRecord c) (call.addLent c)) (0 ∷ []) tt (sym (c .kept .0) ∙ e);
       remove-7 = λ c e. outcome-never 7 (removeTests (call.removeRecord c) (call.removeLent c)) (0 ∷ []) tt (sym (c .kept .0) ∙ e);
+      score-7 = λ c e. outcome-never 7 (scoreTests (call.scoreTally c)) _ tt (sym (c .kept) ∙ e);
       ageing-7 = λ c e. outcome-never 7 ((14, ltb 30 (call.ageingAge c)) ∷ []) _ tt (sym (c .kept) ∙ e);
       weighing-7 = λ c e. outcome-never 7 (weightsTests (call.weightsNodes c) (call.weightsChance c) (length (call.weightsLent c))) (0 ∷ []) tt (sym (c .kept .0) ∙ e);
       reliability-7 = λ c e. outcome-never 7 (rateTests (call.rateTally c) (call.rateChance1 c) (call.rateChance2 c)) _ tt (sym (c .kept) ∙ e);

@@ -12,7 +12,8 @@ use Rattle.study.specs.Calls.{openTests, openValues, checkTests, roundTests}
 use Rattle.study.proofs.Lookups.{round-part, round-found, lookup-refused}
 use Rattle.compose.specs.Compose.{seriesBytes, parallelBytes, recordTests}
 use Rattle.search.specs.Search.{searchBytes}
-use Rattle.tally.specs.Calls.{newTests, addTests, removeTests}
+use Rattle.soundness.specs.Tally.{tallyScore}
+use Rattle.tally.specs.Calls.{newTests, addTests, removeTests, scoreTests}
 use Rattle.weights.specs.Calls.{weightsTests}
 use Rattle.reliability.specs.Calls.{rateTests}
 use Rattle.writer.specs.Writer.{studyBytes, givenTests}
@@ -69,6 +70,7 @@ demand1 =
       fresh = λ c. answers (newTests (call.newSize1 c) (call.newSize2 c) (length (call.newLent c))) (0 ∷ []) (call.newResult c) (c .kept .0);
       add = λ c. answers (addTests (call.addRecord c) (call.addLent c)) (0 ∷ []) (call.addResult c) (c .kept .0);
       remove = λ c. answers (removeTests (call.removeRecord c) (call.removeLent c)) (0 ∷ []) (call.removeResult c) (c .kept .0);
+      score = λ c. answers (scoreTests (call.scoreTally c)) (tallyScore (call.scoreTally c) ∷ []) (call.scoreResult c) (c .kept);
       ageing = λ c. let y = call.ageingAge c in answers ((14, ltb 30 y) ∷ []) _ (call.ageingResult c) (c .kept);
       weighing = λ c. answers (weightsTests (call.weightsNodes c) (call.weightsChance c) (length (call.weightsLent c))) (0 ∷ []) (call.weightsResult c) (c .kept .0);
       reliability = λ c. answers (rateTests (call.rateTally c) (call.rateChance1 c) (call.rateChance2 c)) _ (call.rateResult c) (c .kept);
@@ -102,6 +104,7 @@ demand1 =
       side-reads = λ c. (refl, refl);
       add-reads = λ c. refl;
       remove-reads = λ c. refl;
+      score-reads = λ c. refl;
       reliability-reads = λ c. refl;
       writer-reads = λ c. refl;
       converter-reads = λ c. refl;
@@ -114,6 +117,7 @@ demand1 =
       fresh-made = make.fresh-made;
       add-made = make.add-made;
       remove-made = make.remove-made;
+      score-made = make.score-made;
       ageing-made = make.ageing-made;
       weighing-made = make.weights-made;
       reliability-made = make.reliability-made;
@@ -128,6 +132,7 @@ demand1 =
       fresh-ends = end.fresh-ends;
       add-ends = end.add-ends;
       remove-ends = end.remove-ends;
+      score-ends = end.score-ends;
       ageing-ends = end.ageing-ends;
       weighing-ends = end.weighing-ends;
       reliability-ends = end.reliability-ends;
@@ -142,6 +147,7 @@ demand1 =
       fresh-keeps = keep.fresh-keeps;
       add-keeps = keep.add-keeps;
       remove-keeps = keep.remove-keeps;
+      score-keeps = keep.score-keeps;
       weighing-keeps = keep.weighing-keeps;
       reliability-keeps = keep.reliability-keeps;
       writer-keeps = keep.writer-keeps;

@@ -28,7 +28,7 @@ use Rattle.convert.specs.Convert.{convertTests, convertBytes, convertAnswer, co
 use Rattle.plan.specs.Plan.{Plan, searched, series, parallel, PlanSized}
 use Rattle.plan.specs.Calls.{Through, none, Handed, Searched, RowJoined, SideJoined, Built}
 use Rattle.plan.proofs.Plans.{sound, one-size}
-use Rattle.survival.specs.Calls.{Begun, Added, Tallied, Removing, AllSearched, Rating}
+use Rattle.survival.specs.Calls.{Begun, Adding, Added, Tallied, Removing, AllSearched, Rating}
 use Rattle.survival.proofs.Tallies.{run, as-many}
 use Rattle.kinds.specs.Kinds as call
 use Rattle.demands.specs.Terms.{None, PlanPasses, Wrote, Converted}
@@ -102,13 +102,19 @@ begun-by n1 n2 s o =
     let l : call.newLeft c ≡ newOut n1 n2 s = rw (m .1, m .2, m .3) at (c .kept .1) in
     record { made = c; size1-is = m .1; size2-is = m .2; success-is = a ∙ o; through = subst (Through (call.newLeft c)) l none }
 
-pub added-by : (x t : List ℕ) → addAnswer x t ≡ success (0 ∷ []) → Added x t (addOut x t)
-added-by x t o =
+pub adding-by : (x t : List ℕ) → Adding x t (addOut x t)
+adding-by x t =
     let m = add-made x t in
     let c = m .0 in
-    let a : call.addResult c ≡ addAnswer x t = rw (m .1, m .2) at (c .kept .0) in
     let l : call.addLeft c ≡ addOut x t = rw (m .1, m .2) at (c .kept .1) in
-    record { made = c; record-is = m .1; tally-is = m .2; success-is = a ∙ o; through = subst (Through (call.addLeft c)) l none }
+    record { made = c; record-is = m .1; tally-is = m .2; through = subst (Through (call.addLeft c)) l none }
+
+pub added-by : (x t : List ℕ) → addAnswer x t ≡ success (0 ∷ []) → Added x t (addOut x t)
+added-by x t o =
+    let m = adding-by x t in
+    let c = m .made in
+    let a : call.addResult c ≡ addAnswer x t = rw (m .record-is, m .tally-is) at (c .kept .0) in
+    record { called = m; success-is = a ∙ o }
 
 pub removing-by : (x t : List ℕ) → Removing x t (removeOut x t)
 removing-by x t =
@@ -163,10 +169,10 @@ plan-made (parallel p q) n1 n2 s h =
     (b, (i .0, j .0, i .1, j .1, side-by (i .0) (j .0) b (length b) (just-fits (recordTests (i .0) (j .0)) b (joinable p q n1 n2 (i .0) (j .0) (s .0) (s .1) (i .1) (j .1)))))
 
 -- ---- tallies
-abbrev blank : ℕ → ℕ → List ℕ
+abbrev pub blank : ℕ → ℕ → List ℕ
 blank n1 n2 = replicate (words n1 n2) 0
 
-new-answer : (n1 n2 : ℕ) → n1 ≤ maxClass → n2 ≤ maxClass → newAnswer n1 n2 (length (blank n1 n2)) ≡ success (0 ∷ [])
+pub new-answer : (n1 n2 : ℕ) → n1 ≤ maxClass → n2 ≤ maxClass → newAnswer n1 n2 (length (blank n1 n2)) ≡ success (0 ∷ [])
 new-answer n1 n2 h k =
     go (ltb maxClass n1) (ltb maxClass n2) (ltb (length (blank n1 n2)) (words n1 n2)) (le-ltb maxClass n1 h) (le-ltb maxClass n2 k)
     (le-ltb (length (blank n1 n2)) (words n1 n2) (omega (arith, length-replicate {A = ℕ} (words n1 n2) 0)))

@@ -98,7 +98,7 @@ vain s = go (search-made [] 0 s)
         subst (λ l. Vain s l) (demand1 .search-leaves c .refusal 1 a ∙ m .3) (subst (λ l. Vain l (call.searchLeft c)) (m .3) (search c 1 a))
 
 abbrev spare : List ℕ
-spare = 9 ∷ 9 ∷ 9 ∷ 9 ∷ 9 ∷ 9 ∷ 9 ∷ 9 ∷ 9 ∷ 9 ∷ 9 ∷ 9 ∷ 7 ∷ []
+spare = 9 ∷ 9 ∷ 9 ∷ 9 ∷ 9 ∷ 9 ∷ 9 ∷ 9 ∷ 9 ∷ 9 ∷ 9 ∷ 9 ∷ 9 ∷ 7 ∷ []
 
 tallied : Tallied 2 2 (ring ∷ []) ringTally
 tallied = (newOut 2 2 spare, begun-by 2 2 spare refl, added-by ring (newOut 2 2 spare) refl)

@@ -76,7 +76,7 @@ module _ (r t : List ℕ) where
   lowered-one : (x : List ℕ) → LoweredTally r t x → removed r t ≡ x
   lowered-one x w =
       sym (append-nil (removed r t))
-      ∙ tally-same n1 n2 (rounds t - 1) less [] x (w .size1-is) (w .size2-is) (omega (arith, w .rounds-are)) (omega (arith, w .long)) (λ l1 l2 h k. omega (arith, w .cells-are l1 l2 h k))
+      ∙ tally-same n1 n2 (rounds t - 1) less [] x (w .size1-is) (w .size2-is) (omega (arith, w .rounds-are)) (w .score-is) (omega (arith, w .long)) (λ l1 l2 h k. omega (arith, w .cells-are l1 l2 h k))
       (sym (ap (λ n. drop n x) (sym (w .long)) ∙ drop-length x))
 
   -- every cell can be lowered, or one is 0
@@ -140,7 +140,7 @@ request2 =
 
 -- ---- the sample ring, by evaluation
 abbrev spare : List ℕ
-spare = 9 ∷ 9 ∷ 9 ∷ 9 ∷ 9 ∷ 9 ∷ 9 ∷ 9 ∷ 9 ∷ 9 ∷ 9 ∷ 9 ∷ 7 ∷ []
+spare = 9 ∷ 9 ∷ 9 ∷ 9 ∷ 9 ∷ 9 ∷ 9 ∷ 9 ∷ 9 ∷ 9 ∷ 9 ∷ 9 ∷ 9 ∷ 7 ∷ []
 
 abbrev none : List ℕ
 none = newOut 2 2 spare
@@ -157,7 +157,7 @@ ring-twice = (once, ring ∷ [], (none, [], (begun-by 2 2 spare refl, refl), add
 abbrev less-one : List ℕ
 less-one = removeOut ring twice
 
-ring-moved : Moved 2 2 ringMoves (ring ∷ ring ∷ []) (2 ∷ 2 ∷ 2 ∷ 0 ∷ 0 ∷ 2 ∷ 0 ∷ 2 ∷ 2 ∷ 2 ∷ 2 ∷ 2 ∷ 7 ∷ [])
+ring-moved : Moved 2 2 ringMoves (ring ∷ ring ∷ []) (2 ∷ 2 ∷ 2 ∷ 12 ∷ 0 ∷ 0 ∷ 2 ∷ 0 ∷ 2 ∷ 2 ∷ 2 ∷ 2 ∷ 2 ∷ 7 ∷ [])
 ring-moved = (less-one, ring ∷ [], (twice, ring ∷ ring ∷ [], ring-twice, removing-by ring twice, ([], ring ∷ [], refl, refl)), added-by ring less-one refl, refl)
 
 by-31 : (r t : List ℕ) → removeAnswer r t ≡ refused 31 → (c : call.RemoveCall) → call.removeRecord c ≡ r → call.removeLent c ≡ t → call.removeResult c ≡ refused 31

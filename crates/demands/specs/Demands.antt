@@ -26,8 +26,8 @@ use Rattle.network.specs.Round.{studySize1, studySize2, Route, RoundHolds}
 use Rattle.convert.specs.Convert.{convertTests, convertBytes}
 use Rattle.chance.specs.Chance.{weights, sumE, scaleD, Near}
 use Rattle.weights.specs.Calls.{weightsTests}
-use Rattle.soundness.specs.Tally.{tallySize1, tallySize2, rounds, cell, Sound}
-use Rattle.tally.specs.Calls.{newTests, addTests, removeTests}
+use Rattle.soundness.specs.Tally.{tallySize1, tallySize2, rounds, tallyScore, cell, Sound}
+use Rattle.tally.specs.Calls.{newTests, addTests, removeTests, scoreTests}
 use Rattle.reliability.specs.Calls.{tallyS, rateTests}
 use Rattle.lines.specs.Report.{reportLines}
 use Rattle.plan.specs.Plan.{Plan, searched, series, parallel, PlanHolds, PlanSized}
@@ -67,6 +67,8 @@ pub record Demand1 : Type 0 where
   pub add : (c : call.AddCall) → Answers (addTests (call.addRecord c) (call.addLent c)) (0 ∷ []) (call.addResult c)
   -- remove (S-2's take; 12, 21 to 23, 31): 0
   pub remove : (c : call.RemoveCall) → Answers (removeTests (call.removeRecord c) (call.removeLent c)) (0 ∷ []) (call.removeResult c)
+  -- score (S-5; 21): the tally's fourth word
+  pub score : (c : call.ScoreCall) → Answers (scoreTests (call.scoreTally c)) (tallyScore (call.scoreTally c) ∷ []) (call.scoreResult c)
   -- ageing (14): the chance; 01: "for age y in years, 0 to 30, 1,000,000 − 1,000 × y²"
   pub ageing : (c : call.AgeingCall) → let y = call.ageingAge c in Answers ((14, ltb 30 y) ∷ []) ((1000000 - 1000 * (y * y)) ∷ []) (call.ageingResult c)
   -- weights (6, 14, 15): 0
@@ -120,6 +122,7 @@ pub record Demand1 : Type 0 where
   pub side-reads : (c : call.ParallelCall) → (call.parallelFirstAfter c ≡ call.parallelFirst c) × (call.parallelSecondAfter c ≡ call.parallelSecond c)
   pub add-reads : (c : call.AddCall) → call.addRecordAfter c ≡ call.addRecord c
   pub remove-reads : (c : call.RemoveCall) → call.removeRecordAfter c ≡ call.removeRecord c
+  pub score-reads : (c : call.ScoreCall) → call.scoreTallyAfter c ≡ call.scoreTally c
   pub reliability-reads : (c : call.RateCall) → call.rateTallyAfter c ≡ call.rateTally c
   pub writer-reads : (c : call.WriteCall) → call.writeGivenAfter c ≡ call.writeGiven c
   pub converter-reads : (c : call.ConvertCall) → call.convertFileAfter c ≡ call.convertFile c
@@ -134,6 +137,7 @@ pub record Demand1 : Type 0 where
   pub fresh-made : (n1 n2 : ℕ) (s : List ℕ) → (c : call.NewCall) × (call.newSize1 c ≡ n1) × (call.newSize2 c ≡ n2) × (call.newLent c ≡ s)
   pub add-made : (x t : List ℕ) → (c : call.AddCall) × (call.addRecord c ≡ x) × (call.addLent c ≡ t)
   pub remove-made : (x t : List ℕ) → (c : call.RemoveCall) × (call.removeRecord c ≡ x) × (call.removeLent c ≡ t)
+  pub score-made : (t : List ℕ) → (c : call.ScoreCall) × (call.scoreTally c ≡ t)
   pub ageing-made : (y : ℕ) → (c : call.AgeingCall) × (call.ageingAge c ≡ y)
   pub weighing-made : (n p : ℕ) (s : List ℕ) → (c : call.WeightsCall) × (call.weightsNodes c ≡ n) × (call.weightsChance c ≡ p) × (call.weightsLent c ≡ s)
   pub reliability-made : (t : List ℕ) (p1 p2 : ℕ) → (c : call.RateCall) × (call.rateTally c ≡ t) × (call.rateChance1 c ≡ p1) × (call.rateChance2 c ≡ p2)
@@ -150,6 +154,7 @@ pub record Demand1 : Type 0 where
   pub fresh-ends : (n1 n2 : ℕ) (s : List ℕ) → AlwaysEnds (call.newRun n1 n2 s)
   pub add-ends : (x t : List ℕ) → AlwaysEnds (call.addRun x t)
   pub remove-ends : (x t : List ℕ) → AlwaysEnds (call.removeRun x t)
+  pub score-ends : (t : List ℕ) → AlwaysEnds (call.scoreRun t)
   pub ageing-ends : (y : ℕ) → AlwaysEnds (call.ageingRun y)
   pub weighing-ends : (n p : ℕ) (s : List ℕ) → AlwaysEnds (call.weightsRun n p s)
   pub reliability-ends : (t : List ℕ) (p1 p2 : ℕ) → AlwaysEnds (call.rateRun t p1 p2)
@@ -166,6 +171,7 @@ pub record Demand1 : Type 0 where
   pub add-keeps : (x t : List ℕ) → Keeps (call.addRun x t) (λ c. Refused (call.addResult c))
   pub remove-keeps : (x t : List ℕ) → Keeps (call.removeRun x t) (λ c. Refused (call.removeResult c))
   pub weighing-keeps : (n p : ℕ) (s : List ℕ) → Keeps (call.weightsRun n p s) (λ c. Refused (call.weightsResult c))
+  pub score-keeps : (t : List ℕ) → Keeps (call.scoreRun t) (λ c. Unit)
   pub reliability-keeps : (t : List ℕ) (p1 p2 : ℕ) → Keeps (call.rateRun t p1 p2) (λ c. Unit)
   pub writer-keeps : (g : Given) (s : List ℕ) → Keeps (call.writeRun g s) (λ c. Refused (call.writeResult c))
   pub converter-keeps : (f s : List ℕ) → Keeps (call.convertRun f s) (λ c. Refused (call.convertResult c))

@@ -1,6 +1,6 @@
 -- THE REQUESTS OF DOCUMENT 02, closed: one record each, in 02's order, each field under the sentence that it states; in front of a record the words that it
 -- needs beside the page's, behind it an instance. What a request changes of the three demands stands in Demands.antt. Proofs: proofs/ (request1 to
--- request4; instances failing-ends, taken-back, edge-ages, failing-pipe).
+-- request5; instances failing-ends, taken-back, edge-ages, failing-pipe, standing-score).
 use mathlib.Core.Path.{_≡_}
 use mathlib.Core.Logic.{_↔_, _⊎_}
 use mathlib.Core.Bool.{Bool, not, _||_, cond}
@@ -8,7 +8,7 @@ use mathlib.Core.List.{List, [], _∷_, _++_, map}
 use Prim.Native.Nat.{ℕ, zero, suc, _+_, _-_, _*_, _%_, _≤_, _<_}
 use lib.Dec.{T, eqb, ltb}
 use lib.ListN.{length, getD, take}
-use Rattle.limits.specs.Limits.{arcSize}
+use Rattle.limits.specs.Limits.{arcSize, maxRounds, maxClass}
 use Rattle.laws.specs.Members.{_∈_, keep}
 use Rattle.laws.specs.Reorder.{With, Reordered}
 use Rattle.answer.specs.Outcome.{Outcome, success, refused, outcome, fillAnswer}
@@ -26,14 +26,14 @@ use Rattle.network.specs.Round.{studySize1, studySize2, roundAt, Route, element
 use Rattle.search.specs.Search.{searchBytes}
 use Rattle.convert.specs.Old.{oldSearchBytes}
 use Rattle.convert.specs.Convert.{converted, convertTests, convertBytes}
-use Rattle.chance.specs.Chance.{Near}
-use Rattle.soundness.specs.Tally.{tallySize1, tallySize2, rounds, words, cell, Sound}
-use Rattle.tally.specs.Calls.{addTests, removable, removeTests}
+use Rattle.chance.specs.Chance.{Grows, Near}
+use Rattle.soundness.specs.Tally.{tallySize1, tallySize2, rounds, tallyScore, words, cell, cellSum, noRoom, isSound, Sound}
+use Rattle.tally.specs.Calls.{newTests, addTests, removable, removeTests}
 use Rattle.lines.specs.Text.{sizesLine, frontLine, refusedLine}
 use Rattle.lines.specs.Report.{byAnswer, countLines, tallyAfter, roundAnswer, freshFor, maxInput, reportOpens, reportLines}
 use Rattle.plan.specs.Plan.{Plan, searched, series, parallel, PlanSized}
 use Rattle.plan.specs.Calls.{Through, Searched, Built}
-use Rattle.survival.specs.Calls.{Tallied, Move, adding, removing, Moved, RemovesSucceed, AllSearched, Rating}
+use Rattle.survival.specs.Calls.{Tallied, Move, adding, removing, Moved, RemovesSucceed, Called, AllSearched, Rating}
 use Rattle.survival.specs.Counts.{Count, HoldsWith}
 use Rattle.samples.specs.Table.{ringArcs, ringFile, oldRingFile, ring}
 use Rattle.runs.specs.Run.{Ends}
@@ -133,6 +133,7 @@ pub record Request1 : Type 0 where
   pub fresh-7 : (c : call.NewCall) → call.newResult c ≡ refused 7 → ⊥
   pub add-7 : (c : call.AddCall) → call.addResult c ≡ refused 7 → ⊥
   pub remove-7 : (c : call.RemoveCall) → call.removeResult c ≡ refused 7 → ⊥
+  pub score-7 : (c : call.ScoreCall) → call.scoreResult c ≡ refused 7 → ⊥
   pub ageing-7 : (c : call.AgeingCall) → call.ageingResult c ≡ refused 7 → ⊥
   pub weighing-7 : (c : call.WeightsCall) → call.weightsResult c ≡ refused 7 → ⊥
   pub reliability-7 : (c : call.RateCall) → call.rateResult c ≡ refused 7 → ⊥
@@ -235,15 +236,15 @@ abbrev pub nowhere : List ℕ
 nowhere = 1 ∷ 1 ∷ 0 ∷ []
 
 pub record TakenBack : Type 0 where
-  -- two rounds remain: M and each cell are twice those of the ring's one round; the word past the cells is as it was
-  pub moved : Moved 2 2 ringMoves (ring ∷ ring ∷ []) (2 ∷ 2 ∷ 2 ∷ 0 ∷ 0 ∷ 2 ∷ 0 ∷ 2 ∷ 2 ∷ 2 ∷ 2 ∷ 2 ∷ 7 ∷ [])
+  -- two rounds remain: M, the score and each cell are twice those of the ring's one round; the word past the cells is as it was
+  pub moved : Moved 2 2 ringMoves (ring ∷ ring ∷ []) (2 ∷ 2 ∷ 2 ∷ 12 ∷ 0 ∷ 0 ∷ 2 ∷ 0 ∷ 2 ∷ 2 ∷ 2 ∷ 2 ∷ 2 ∷ 7 ∷ [])
   -- 31 by each cause alone: M is 0, and no cell is to be lowered
-  pub no-rounds : Refuses31 nowhere (1 ∷ 1 ∷ 0 ∷ 0 ∷ 0 ∷ 0 ∷ 0 ∷ [])
+  pub no-rounds : Refuses31 nowhere (1 ∷ 1 ∷ 0 ∷ 0 ∷ 0 ∷ 0 ∷ 0 ∷ 0 ∷ [])
   -- a cell to be lowered is 0
-  pub no-cell : Refuses31 firstAlone (1 ∷ 1 ∷ 2 ∷ 0 ∷ 0 ∷ 0 ∷ 0 ∷ [])
+  pub no-cell : Refuses31 firstAlone (1 ∷ 1 ∷ 2 ∷ 0 ∷ 0 ∷ 0 ∷ 0 ∷ 0 ∷ [])
   -- the outcome is not sound: a cell falls as l1 grows; a cell is above M
-  pub falls : Refuses31 firstAlone (1 ∷ 1 ∷ 2 ∷ 0 ∷ 1 ∷ 0 ∷ 1 ∷ [])
-  pub above-m : Refuses31 nowhere (1 ∷ 1 ∷ 2 ∷ 0 ∷ 0 ∷ 0 ∷ 2 ∷ [])
+  pub falls : Refuses31 firstAlone (1 ∷ 1 ∷ 2 ∷ 2 ∷ 0 ∷ 1 ∷ 0 ∷ 1 ∷ [])
+  pub above-m : Refuses31 nowhere (1 ∷ 1 ∷ 2 ∷ 2 ∷ 0 ∷ 0 ∷ 0 ∷ 2 ∷ [])
 
 -- ======== S-3 AGEING BY FORMULA
 -- The call's answer on every age is Demand1's `ageing`, which stays: its line is the code's.
@@ -342,3 +343,81 @@ pub record FailingPipe : Type 0 where
   -- "Nothing in a file tells its form": these bytes are an old study, whose arc never fails, and a new one, whose arc is of class 1; both are good
   pub as-old : None (convertTests either) × (oldSearchBytes either 0 ≡ 0 ∷ 0 ∷ 1 ∷ 1 ∷ 1 ∷ [])
   pub as-new : Searched either 0 (1 ∷ 0 ∷ 1 ∷ 1 ∷ 1 ∷ [])
+
+-- ======== S-5 THE STANDING SCORE
+-- That fresh, add and take leave a tally whose fourth word is "the sum of all cells" (`cellSum`) is Demand1's `fresh-leaves`, `add-leaves` and
+-- `remove-leaves`, by `TallyWords` and `LoweredTally`; S-2's `same` and `restores` speak of every word, so of this one too. Demand1 has the score call.
+-- sound by document 01's words alone
+pub record FormerlySound (t : List ℕ) : Type 0 where
+  pub small : (tallySize1 t ≤ maxClass) × (tallySize2 t ≤ maxClass)
+  pub few : rounds t ≤ maxRounds
+  pub grows : Grows (tallySize1 t) (tallySize2 t) (rounds t) (cell t)
+
+-- the fourth word is the sum of all cells
+abbrev pub TrueScore : List ℕ → Type 0
+TrueScore t = tallyScore t ≡ cellSum (tallySize1 t) (tallySize2 t) (cell t)
+
+pub record Request5 : Type 0 where
+  -- "The tally gains a fourth word for it, before the cells"
+  pub fourth : (t : List ℕ) → tallyScore t ≡ getD t 3 0
+  pub cells-behind : (t : List ℕ) (l1 l2 : ℕ) → cell t l1 l2 ≡ getD t (4 + (l1 * (tallySize2 t + 1) + l2)) 0
+  -- "kept true by fresh, add and take"
+  pub fresh-true : (c : call.NewCall) → call.newResult c ≡ success (0 ∷ []) → TrueScore (call.newLeft c)
+  pub add-true : (c : call.AddCall) → call.addResult c ≡ success (0 ∷ []) → TrueScore (call.addLeft c)
+  pub take-true : (c : call.RemoveCall) → call.removeResult c ≡ success (0 ∷ []) → TrueScore (call.removeLeft c)
+  -- "Sound now includes that the word equals the sum": the test of 22, over any words
+  pub sound : (t : List ℕ) → T (isSound t) ↔ (FormerlySound t × TrueScore t)
+  -- "the length tests count four words": 21 of add, take and reliability, and of fresh
+  pub no-room : (t : List ℕ) → let n1 = tallySize1 t in let n2 = tallySize2 t in
+      T (noRoom t) ↔ ((length t < 4) ⊎ ((n1 ≤ maxClass) × (n2 ≤ maxClass) × (length t < 4 + (n1 + 1) * (n2 + 1))))
+  pub fresh-room : (n1 n2 room : ℕ) → newTests n1 n2 room ≡ (6, ltb maxClass n1 || ltb maxClass n2) ∷ (21, ltb room (4 + (n1 + 1) * (n2 + 1))) ∷ []
+  -- "The score call returns that word": of any four words or more
+  pub returns : (c : call.ScoreCall) → 4 ≤ length (call.scoreTally c) → call.scoreResult c ≡ success (tallyScore (call.scoreTally c) ∷ [])
+  -- "without reading a cell and without the soundness test": its answer depends on whether there are four words, and on the fourth alone
+  pub no-cell-read : (c d : call.ScoreCall) → let t = call.scoreTally c in let u = call.scoreTally d in
+      ltb (length t) 4 ≡ ltb (length u) 4 → tallyScore t ≡ tallyScore u → call.scoreResult c ≡ call.scoreResult d
+  -- "For every list of adds and takes, refused ones too, after a fresh tally that nothing else changes, it equals the full sum.": takes of fronts that were
+  -- never added are among them, and each list of any records can be called
+  pub standing : (n1 n2 : ℕ) (ms : List Move) (t : List ℕ) → Called n1 n2 ms t → (c : call.ScoreCall) → call.scoreTally c ≡ t
+      → (tallySize1 t ≡ n1) × (tallySize2 t ≡ n2) × (call.scoreResult c ≡ success (cellSum n1 n2 (cell t) ∷ []))
+  pub callable : (n1 n2 : ℕ) → n1 ≤ maxClass → n2 ≤ maxClass → (ms : List Move) → (t : List ℕ) × Called n1 n2 ms t
+  -- so, where the fronts that remain are those of searched rounds, it is the sum of what direct removal finds
+  pub found : (n1 n2 : ℕ) (ms : List Move) (left : List (List ℕ)) (t : List ℕ) → Moved n1 n2 ms left t → (qs : List (List ℕ × ℕ)) → AllSearched qs left
+      → (by-removal : ℕ → ℕ → ℕ) → ((l1 l2 : ℕ) → l1 ≤ n1 → l2 ≤ n2 → Count (HoldsWith n1 n2 l1 l2) qs (by-removal l1 l2))
+      → (c : call.ScoreCall) → call.scoreTally c ≡ t → call.scoreResult c ≡ success (cellSum n1 n2 by-removal ∷ [])
+  -- "Its only refusal is 21 below four words."
+  pub only-21 : (c : call.ScoreCall) (n : ℕ) → (call.scoreResult c ≡ refused n) ↔ ((n ≡ 21) × (length (call.scoreTally c) < 4))
+
+-- two fronts of class sizes 1 and 1, one that bears the failure of class 1, one that of class 2; where both hold, `firstAlone` does
+abbrev pub bearsFirst : List ℕ
+bearsFirst = 1 ∷ 1 ∷ 1 ∷ 2 ∷ 1 ∷ []
+
+abbrev pub bearsSecond : List ℕ
+bearsSecond = 1 ∷ 1 ∷ 1 ∷ 1 ∷ 2 ∷ []
+
+-- both added, a front taken that was never added, and an add of no record at all
+abbrev pub mixedMoves : List Move
+mixedMoves = adding [] ∷ removing firstAlone ∷ adding bearsSecond ∷ adding bearsFirst ∷ []
+
+-- the fourth word alone is wrong: the cells add up to 3
+abbrev pub wrongScore : List ℕ
+wrongScore = 1 ∷ 1 ∷ 1 ∷ 2 ∷ 0 ∷ 1 ∷ 1 ∷ 1 ∷ []
+
+-- the score call answers so on this tally, whoever makes it
+abbrev pub ScoreIs : List ℕ → Outcome → Type 0
+ScoreIs t o = (c : call.ScoreCall) → call.scoreTally c ≡ t → call.scoreResult c ≡ o
+
+pub record StandingScore : Type 0 where
+  -- the take succeeds, the add is refused: 3 of the 4 cells hold, once each
+  pub called : Called 1 1 mixedMoves (1 ∷ 1 ∷ 1 ∷ 3 ∷ 0 ∷ 1 ∷ 1 ∷ 1 ∷ [])
+  pub scored : ScoreIs (1 ∷ 1 ∷ 1 ∷ 3 ∷ 0 ∷ 1 ∷ 1 ∷ 1 ∷ []) (success (3 ∷ []))
+  -- the sample ring's one round (R7's tally)
+  pub ring-scored : ScoreIs (2 ∷ 2 ∷ 1 ∷ 6 ∷ 0 ∷ 0 ∷ 1 ∷ 0 ∷ 1 ∷ 1 ∷ 1 ∷ 1 ∷ 1 ∷ []) (success (6 ∷ []))
+  -- three words, and four that are no tally
+  pub three : ScoreIs (65 ∷ 0 ∷ 0 ∷ []) (refused 21)
+  pub four : ScoreIs (65 ∷ 0 ∷ 0 ∷ 9 ∷ []) (success (9 ∷ []))
+  -- where the fourth word alone is wrong, add, take and reliability answer 22, and the score call that word
+  pub add-22 : (c : call.AddCall) → call.addRecord c ≡ bearsFirst → call.addLent c ≡ wrongScore → call.addResult c ≡ refused 22
+  pub take-22 : (c : call.RemoveCall) → call.removeRecord c ≡ bearsFirst → call.removeLent c ≡ wrongScore → call.removeResult c ≡ refused 22
+  pub rate-22 : (c : call.RateCall) → call.rateTally c ≡ wrongScore → call.rateChance1 c ≡ 0 → call.rateChance2 c ≡ 0 → call.rateResult c ≡ refused 22
+  pub wrong : ScoreIs wrongScore (success (2 ∷ []))

@@ -18,7 +18,7 @@ use Rattle.compose.specs.Compose.{seriesAnswer, seriesBytes, parallelAnswer, pa
 use Rattle.writer.specs.Writer.{Given, givenTests, writeAnswer, studyBytes}
 use Rattle.convert.specs.Convert.{convertTests, convertBytes, convertAnswer}
 use Rattle.tally.specs.Cells.{tallyOf}
-use Rattle.tally.specs.Calls.{newAnswer, added, addAnswer, removed, removeAnswer}
+use Rattle.tally.specs.Calls.{newAnswer, added, addAnswer, removed, removeAnswer, scoreAnswer}
 use Rattle.chance.specs.Chance.{weights}
 use Rattle.weights.specs.Calls.{ageingAnswer, weightsAnswer}
 use Rattle.reliability.specs.Calls.{rateAnswer}
@@ -52,6 +52,9 @@ use Rattle.medlarbrace.proofs.tallies.medlarbrace_tally_add.Symbol as add-symbo
 use Rattle.medlarbrace.proofs.tallies.medlarbrace_tally_remove.Reads as remove-reads
 use Rattle.medlarbrace.proofs.tallies.medlarbrace_tally_remove.Met as remove-met
 use Rattle.medlarbrace.proofs.tallies.medlarbrace_tally_remove.Symbol as remove-symbol
+use Rattle.medlarbrace.proofs.tallies.medlarbrace_tally_score.Reads as score-reads
+use Rattle.medlarbrace.proofs.tallies.medlarbrace_tally_score.Met as score-met
+use Rattle.medlarbrace.proofs.tallies.medlarbrace_tally_score.Symbol as score-symbol
 use Rattle.medlarbrace.proofs.tallies.medlarbrace_ageing.Reads as ageing-reads
 use Rattle.medlarbrace.proofs.tallies.medlarbrace_ageing.Met as ageing-met
 use Rattle.medlarbrace.proofs.tallies.medlarbrace_ageing.Symbol as ageing-symbol
@@ -67,7 +70,7 @@ use Rattle.medlarbrace.proofs.files.medlarbrace_write.Symbol as writer-symbol
 use Rattle.medlarbrace.proofs.files.medlarbrace_convert.Reads as converter-reads
 use Rattle.medlarbrace.proofs.files.medlarbrace_convert.Met as converter-met
 use Rattle.medlarbrace.proofs.files.medlarbrace_convert.Symbol as converter-symbol
-use Rattle.functions.specs.Functions.{openFunction, roundFunction, searchFunction, seriesFunction, parallelFunction, newFunction, addFunction, removeFunction, ageingFunction, weightsFunction, reliabilityFunction, writeFunction, convertFunction, Says, KeepsUnless0, NeverReturns, EveryFunction}
+use Rattle.functions.specs.Functions.{openFunction, roundFunction, searchFunction, seriesFunction, parallelFunction, newFunction, addFunction, removeFunction, scoreFunction, ageingFunction, weightsFunction, reliabilityFunction, writeFunction, convertFunction, Says, KeepsUnless0, NeverReturns, EveryFunction}
 
 -- the machine's value is the number that was returned
 returned : {v : Val} {n m : ℕ} → v ∷ [] ≡ vint w32 n ∷ [] → n ≡ m → v ≡ vint w32 m
@@ -202,6 +205,20 @@ remove-said x t others e =
     let d = told (removeFunction x t) e in
     (returned (e .value-is .0) (d .kept .0), rw (← d .kept .1) (d .memory-is))
 
+-- ---- medlarbrace_tally_score
+score-ends : (t : List ℕ) (s : ℕ) → AlwaysEnds (scoreFunction t s)
+unfolding tablesOf
+score-ends t s =
+    always (scoreFunction t s) (score-reads.known w₀ (λ i. score-symbol.routine) anyName score-symbol.routine refl (score-met.met (w₀ .𝓤) (w₀ .H) (w₀ .𝓜) (w₀ .𝓖) (w₀ .𝓡))) (λ κs. tt) (λ b κs γs. tt)
+
+abbrev score-left : List ℕ → ℕ → Outcome → List Block
+score-left t s a = block u32 t ∷ block u32 (result 0 a s ∷ []) ∷ []
+
+score-said : (t : List ℕ) (s : ℕ) → let a = scoreAnswer t in Says (scoreFunction t s) a (score-left t s a)
+score-said t s others e =
+    let d = told (scoreFunction t s) e in
+    (returned (e .value-is .0) (d .kept .0), rw (← d .kept .1) (d .memory-is))
+
 -- ---- medlarbrace_ageing
 ageing-ends : (y chance : ℕ) → AlwaysEnds (ageingFunction y chance)
 unfolding tablesOf
@@ -278,6 +295,7 @@ every-function =
       new-ends = new-ends;
       add-ends = add-ends;
       remove-ends = remove-ends;
+      score-ends = score-ends;
       ageing-ends = ageing-ends;
       weights-ends = weights-ends;
       reliability-ends = reliability-ends;
@@ -289,6 +307,7 @@ every-function =
       new-says = λ c. likewise (newFunction (call.newSize1 c) (call.newSize2 c) (call.newLent c)) new-left (call.newResult c) _ (call.newLeft c) _ (c .kept .0) (c .kept .1) (new-said (call.newSize1 c) (call.newSize2 c) (call.newLent c));
       add-says = λ c. likewise (addFunction (call.addRecord c) (call.addLent c)) (add-left (call.addRecord c)) (call.addResult c) _ (call.addLeft c) _ (c .kept .0) (c .kept .1) (add-said (call.addRecord c) (call.addLent c));
       remove-says = λ c. likewise (removeFunction (call.removeRecord c) (call.removeLent c)) (add-left (call.removeRecord c)) (call.removeResult c) _ (call.removeLeft c) _ (c .kept .0) (c .kept .1) (remove-said (call.removeRecord c) (call.removeLent c));
+      score-says = λ c s. rw (c .kept) (score-said (call.scoreTally c) s);
       ageing-says = λ c chance. rw (c .kept) (ageing-said (call.ageingAge c) chance);
       weights-says = λ c. likewise (weightsFunction (call.weightsNodes c) (call.weightsChance c) (call.weightsLent c)) new-left (call.weightsResult c) _ (call.weightsLeft c) _ (c .kept .0) (c .kept .1) (weights-said (call.weightsNodes c) (call.weightsChance c) (call.weightsLent c));
       reliability-says = λ c s m r. rw (c .kept) (reliability-said (call.rateTally c) (call.rateChance1 c) (call.rateChance2 c) s m r);
@@ -305,6 +324,7 @@ every-function =
       new-keeps = λ n1 n2 t. keeps (newFunction n1 n2 t) (λ a. new-left (filled a (tallyOf n1 n2 0 (λ l1 l2. 0)) t) a) (λ i. refl) (newAnswer n1 n2 (length t)) (new-said n1 n2 t);
       add-keeps = λ x t. keeps (addFunction x t) (λ a. add-left x (filled a (added x t) t) a) (λ i. refl) (addAnswer x t) (add-said x t);
       remove-keeps = λ x t. keeps (removeFunction x t) (λ a. add-left x (filled a (removed x t) t) a) (λ i. refl) (removeAnswer x t) (remove-said x t);
+      score-keeps = λ t s. keeps (scoreFunction t s) (score-left t s) (λ i. refl) (scoreAnswer t) (score-said t s);
       ageing-keeps = λ y chance. keeps (ageingFunction y chance) (ageing-left y chance) (λ i. refl) (ageingAnswer y) (ageing-said y chance);
       weights-keeps = λ n p out. keeps (weightsFunction n p out) (λ a. new-left (filled a (weights p n) out) a) (λ i. refl) (weightsAnswer n p (length out)) (weights-said n p out);
       reliability-keeps = λ t p1 p2 s m r. keeps (reliabilityFunction t p1 p2 s m r) (reliability-left t p1 p2 s m r) (λ i. refl) (rateAnswer t p1 p2) (reliability-said t p1 p2 s m r);

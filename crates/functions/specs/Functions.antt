@@ -38,6 +38,9 @@ use Rattle.medlarbrace.proofs.tallies.medlarbrace_tally_add.Symbol as add-symbo
 use Rattle.medlarbrace.proofs.tallies.medlarbrace_tally_remove.Kinds as remove-kinds
 use Rattle.medlarbrace.proofs.tallies.medlarbrace_tally_remove.Reads as remove-reads
 use Rattle.medlarbrace.proofs.tallies.medlarbrace_tally_remove.Symbol as remove-symbol
+use Rattle.medlarbrace.proofs.tallies.medlarbrace_tally_score.Kinds as score-kinds
+use Rattle.medlarbrace.proofs.tallies.medlarbrace_tally_score.Reads as score-reads
+use Rattle.medlarbrace.proofs.tallies.medlarbrace_tally_score.Symbol as score-symbol
 use Rattle.medlarbrace.proofs.tallies.medlarbrace_ageing.Kinds as ageing-kinds
 use Rattle.medlarbrace.proofs.tallies.medlarbrace_ageing.Reads as ageing-reads
 use Rattle.medlarbrace.proofs.tallies.medlarbrace_ageing.Symbol as ageing-symbol
@@ -97,6 +100,10 @@ addFunction x t = run 2 (shared u8 0 tt x ∷ mutable u32 1 tt t ∷ []) (value 
 abbrev pub removeFunction : List ℕ → List ℕ → Run
 removeFunction x t = run 2 (shared u8 0 tt x ∷ mutable u32 1 tt t ∷ []) (value remove-kinds.r) remove-reads.Asked remove-reads.Learnt remove-symbol.routine
 
+-- medlarbrace_tally_score(tally, score)
+abbrev pub scoreFunction : List ℕ → ℕ → Run
+scoreFunction t s = run 2 (shared u32 0 tt t ∷ place u32 1 tt s ∷ []) (value score-kinds.r) score-reads.Asked score-reads.Learnt score-symbol.routine
+
 -- medlarbrace_ageing(age, chance)
 abbrev pub ageingFunction : ℕ → ℕ → Run
 ageingFunction y chance = run 1 (number w64 y ∷ place u32 0 tt chance ∷ []) (value ageing-kinds.r) ageing-reads.Asked ageing-reads.Learnt ageing-symbol.routine
@@ -150,6 +157,7 @@ pub record EveryFunction : Type 0 where
   pub new-ends : (n1 n2 : ℕ) (t : List ℕ) → AlwaysEnds (newFunction n1 n2 t)
   pub add-ends : (x t : List ℕ) → AlwaysEnds (addFunction x t)
   pub remove-ends : (x t : List ℕ) → AlwaysEnds (removeFunction x t)
+  pub score-ends : (t : List ℕ) (s : ℕ) → AlwaysEnds (scoreFunction t s)
   pub ageing-ends : (y chance : ℕ) → AlwaysEnds (ageingFunction y chance)
   pub weights-ends : (n p : ℕ) (out : List ℕ) → AlwaysEnds (weightsFunction n p out)
   pub reliability-ends : (t : List ℕ) (p1 p2 s m r : ℕ) → AlwaysEnds (reliabilityFunction t p1 p2 s m r)
@@ -173,6 +181,8 @@ pub record EveryFunction : Type 0 where
   pub remove-says : (c : call.RemoveCall) →
       Says (removeFunction (call.removeRecord c) (call.removeLent c)) (call.removeResult c)
       (block u8 (call.removeRecord c) ∷ block u32 (call.removeLeft c) ∷ [])
+  pub score-says : (c : call.ScoreCall) (s : ℕ) → let a = call.scoreResult c in
+      Says (scoreFunction (call.scoreTally c) s) a (block u32 (call.scoreTally c) ∷ block u32 (result 0 a s ∷ []) ∷ [])
   pub ageing-says : (c : call.AgeingCall) (chance : ℕ) → let a = call.ageingResult c in
       Says (ageingFunction (call.ageingAge c) chance) a (block u32 (result 0 a chance ∷ []) ∷ [])
   pub weights-says : (c : call.WeightsCall) →
@@ -201,6 +211,7 @@ pub record EveryFunction : Type 0 where
   pub new-keeps : (n1 n2 : ℕ) (t : List ℕ) → KeepsUnless0 (newFunction n1 n2 t)
   pub add-keeps : (x t : List ℕ) → KeepsUnless0 (addFunction x t)
   pub remove-keeps : (x t : List ℕ) → KeepsUnless0 (removeFunction x t)
+  pub score-keeps : (t : List ℕ) (s : ℕ) → KeepsUnless0 (scoreFunction t s)
   pub ageing-keeps : (y chance : ℕ) → KeepsUnless0 (ageingFunction y chance)
   pub weights-keeps : (n p : ℕ) (out : List ℕ) → KeepsUnless0 (weightsFunction n p out)
   pub reliability-keeps : (t : List ℕ) (p1 p2 s m r : ℕ) → KeepsUnless0 (reliabilityFunction t p1 p2 s m r)

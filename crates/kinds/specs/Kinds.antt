@@ -1,4 +1,4 @@
--- THE CALLS OF DOCUMENT 01, and remove and convert of document 02, and their arguments by name. Nothing outside this file reads a call in another way.
+-- THE CALLS OF DOCUMENT 01, and remove, score and convert of document 02, and their arguments by name. Nothing outside this file reads a call in another way.
 -- From a public function F of a crate C the checker makes modules that a definition may cite:
 --   Rattle.C.proofs.F.Kinds    `ps` and `r`: the kinds of F's parameters, in the order of the source, and of its result
 --   Rattle.C.proofs.F.Reads    F's contract: `Learnt`, all its `ensures`, what every caller is told; `Asked`, all its `requires`, what a caller must show
@@ -15,7 +15,7 @@ use denote.Ref.{RefT}
 use Rattle.runs.specs.Call.{Call, after}
 use Rattle.runs.specs.Arguments.{u8, u32, number, shared, mutable, value, part}
 use Rattle.runs.specs.Run.{Run, run}
-use Rattle.answer.specs.Outcome.{Outcome, opened, done, written, aged, rated}
+use Rattle.answer.specs.Outcome.{Outcome, opened, done, written, aged, scored, rated}
 use Rattle.study.proofs.open_study.Kinds as open-kinds
 use Rattle.study.proofs.open_study.Reads as open-reads
 use Rattle.study.proofs.open_study.Symbol as open-symbol
@@ -43,6 +43,9 @@ use Rattle.tally.proofs.add.Symbol as add-symbol
 use Rattle.tally.proofs.remove.Kinds as remove-kinds
 use Rattle.tally.proofs.remove.Reads as remove-reads
 use Rattle.tally.proofs.remove.Symbol as remove-symbol
+use Rattle.tally.proofs.score.Kinds as score-kinds
+use Rattle.tally.proofs.score.Reads as score-reads
+use Rattle.tally.proofs.score.Symbol as score-symbol
 use Rattle.weights.proofs.ageing.Kinds as ageing-kinds
 use Rattle.weights.proofs.ageing.Reads as ageing-reads
 use Rattle.weights.proofs.ageing.Symbol as ageing-symbol
@@ -273,6 +276,22 @@ removeResult c = done (c .result)
 
 abbrev pub removeRun : List ℕ → List ℕ → Run
 removeRun x t = run 2 (shared u8 0 tt x ∷ mutable u32 1 tt t ∷ []) (value remove-kinds.r) remove-reads.Asked remove-reads.Learnt remove-symbol.routine
+
+-- ---- SCORE: tally::score(tally)
+abbrev pub ScoreCall : Type 0
+ScoreCall = Call 1 score-kinds.ps score-kinds.r score-reads.Learnt
+
+abbrev pub scoreTally : ScoreCall → List ℕ
+scoreTally c = c .args .0 .now
+
+abbrev pub scoreTallyAfter : ScoreCall → List ℕ
+scoreTallyAfter c = after c .0 .now
+
+abbrev pub scoreResult : ScoreCall → Outcome
+scoreResult c = scored (c .result)
+
+abbrev pub scoreRun : List ℕ → Run
+scoreRun t = run 1 (shared u32 0 tt t ∷ []) (value score-kinds.r) score-reads.Asked score-reads.Learnt score-symbol.routine
 
 -- ---- AGEING: weights::ageing(age)
 abbrev pub AgeingCall : Type 0

@@ -1,8 +1,8 @@
 -- Products that are bounded, and sums over the numbers below n.
-use mathlib.Core.Path.{_≡_, refl, ap₂}
+use mathlib.Core.Path.{_≡_, refl, sym, ap, ap₂, _∙_}
 use mathlib.Core.Logic.{⊎-elim}
 use Prim.Native.Nat.{ℕ, zero, suc, _+_, _*_, _≤_, _<_}
-use native.Mathlib.Nat.{mul-zero, mul-le-mul, mul-le-mul-left, eq-or-lt-of-le, le-of-eq}
+use native.Mathlib.Nat.{mul-zero, zero-mul, suc-mul, mul-le-mul, mul-le-mul-left, eq-or-lt-of-le, le-of-eq}
 use native.Mathlib.Numerals.{add-one}
 use native.Mathlib.Omega.{arith}
 
@@ -48,3 +48,22 @@ sum-part m (suc n) g h = ⊎-elim (λ (e : m ≡ suc n). le-of-eq (rw e)) (λ (k
 -- a part of a sum, and one term more, is within the bound of the sum
 pub part-fits : (n m j : ℕ) (g : ℕ → ℕ) → sumTo n g ≤ m → j < n → sumTo j g + g j ≤ m
 part-fits n m j g k h = omega (arith, k, sum-part (suc j) n g h)
+
+-- terms that are all the same, or at most so much
+pub sum-each : (n b : ℕ) (g : ℕ → ℕ) → ((i : ℕ) → i < n → g i ≡ b) → sumTo n g ≡ n * b
+sum-each zero b g e = sym (zero-mul b)
+sum-each (suc n) b g e = omega (arith, sum-each n b g (λ i k. e i (omega arith)), e n (omega arith), suc-mul n b)
+
+pub sum-most : (n b : ℕ) (g : ℕ → ℕ) → ((i : ℕ) → i < n → g i ≤ b) → sumTo n g ≤ n * b
+sum-most n b g e = omega (arith, sum-le n g (λ i. b) e, sum-each n b (λ i. b) (λ i k. refl))
+
+-- a sum in two parts, and in n parts of w
+pub sum-split : (m n : ℕ) (g : ℕ → ℕ) → sumTo (m + n) g ≡ sumTo m g + sumTo n (λ i. g (m + i))
+sum-split m zero g = let e : m + 0 ≡ m = omega arith in ap (λ k. sumTo k g) e ∙ omega arith
+sum-split m (suc n) g = let e : m + suc n ≡ suc (m + n) = omega arith in ap (λ k. sumTo k g) e ∙ omega (arith, sum-split m n g)
+
+pub sum-rows : (n w : ℕ) (g : ℕ → ℕ) → sumTo (n * w) g ≡ sumTo n (λ i. sumTo w (λ j. g (i * w + j)))
+sum-rows zero w g = ap (λ k. sumTo k g) (zero-mul w)
+sum-rows (suc n) w g =
+    let e : suc n * w ≡ n * w + w = omega (arith, suc-mul n w) in
+    ap (λ k. sumTo k g) e ∙ sum-split (n * w) w g ∙ ap (λ k. k + sumTo w (λ j. g (n * w + j))) (sum-rows n w g)

@@ -223,7 +223,7 @@ module _ (f v : List ℕ) (o : reportOpens f ≡ success v) where
   pub count-next : (i l1 : ℕ) (t : List ℕ) → i ≡ suc (M + l1) → Due f v i t → Step i (countLine l1 (tallyRow t l1)) (ltb l1 n1) t
   count-next i l1 t e d = rw e (count-step l1 t (rw e at d))
 
-  -- ---- THE TALLY THROUGHOUT has the study's sizes, in 4,228 words
+  -- ---- THE TALLY THROUGHOUT has the study's sizes, in 4,229 words
   room : words n1 n2 ≤ largest
   room = omega (arith, cells-most n1 n2 (small .0) (small .1))
 

@@ -71,7 +71,7 @@ empty = 2 ∷ 2 ∷ 0 ∷ []
 
 -- a new tally for the ring, with a word to spare, and R2's record added
 abbrev pub ringTally : List ℕ
-ringTally = addOut ring (newOut 2 2 (9 ∷ 9 ∷ 9 ∷ 9 ∷ 9 ∷ 9 ∷ 9 ∷ 9 ∷ 9 ∷ 9 ∷ 9 ∷ 9 ∷ 7 ∷ []))
+ringTally = addOut ring (newOut 2 2 (9 ∷ 9 ∷ 9 ∷ 9 ∷ 9 ∷ 9 ∷ 9 ∷ 9 ∷ 9 ∷ 9 ∷ 9 ∷ 9 ∷ 9 ∷ 7 ∷ []))
 
 -- output slices of ten bytes, and of eight: too few for the ring's record
 abbrev pub ten : List ℕ
@@ -124,7 +124,7 @@ pub record Table : Type 0 where
   pub r6-answer : weightsAnswer 2 333333 4 ≡ success (0 ∷ [])
   pub r6-out : weightsOut 2 333333 (9 ∷ 9 ∷ 9 ∷ 9 ∷ []) ≡ 4444449 ∷ 4444443 ∷ 1111108 ∷ 9 ∷ []
   -- R7 both chances 500,000: S = 68,750,000,000,000, M = 1, R = 6,875,000; of R2's record in a new tally
-  pub r7-tally : ringTally ≡ 2 ∷ 2 ∷ 1 ∷ 0 ∷ 0 ∷ 1 ∷ 0 ∷ 1 ∷ 1 ∷ 1 ∷ 1 ∷ 1 ∷ 7 ∷ []
+  pub r7-tally : ringTally ≡ 2 ∷ 2 ∷ 1 ∷ 6 ∷ 0 ∷ 0 ∷ 1 ∷ 0 ∷ 1 ∷ 1 ∷ 1 ∷ 1 ∷ 1 ∷ 7 ∷ []
   pub r7 : rateAnswer ringTally 500000 500000 ≡ success (68750000000000 ∷ 1 ∷ 6875000 ∷ [])
   -- where R is exact: 10^7 × E = R × D
   pub r7-exact : 10000000 * sumE 2 2 500000 500000 (cell ringTally) ≡ 6875000 * scaleD 2 2
@@ -166,16 +166,17 @@ pub record Table : Type 0 where
   pub zero : isRecord (1 ∷ 2 ∷ 1 ∷ 0 ∷ 3 ∷ []) ≡ false
   pub twice : isRecord (2 ∷ 2 ∷ 2 ∷ 2 ∷ 2 ∷ 2 ∷ 2 ∷ []) ≡ false
   pub large : isRecord (65 ∷ 0 ∷ 0 ∷ []) ≡ false
-  -- the numbers of a tally: a size above 64 is 22, however short the slice; 22 before 24 and 25
-  pub n21 : stateAnswer (64 ∷ 64 ∷ 0 ∷ []) ≡ refused 21
-  pub n21-head : stateAnswer (65 ∷ 0 ∷ []) ≡ refused 21
-  pub n22 : stateAnswer (65 ∷ 0 ∷ 0 ∷ []) ≡ refused 22
-  pub n22-rounds : addAnswer (0 ∷ 0 ∷ 0 ∷ []) (0 ∷ 0 ∷ 100001 ∷ 0 ∷ []) ≡ refused 22
-  pub n22-fall : rateAnswer (1 ∷ 0 ∷ 0 ∷ 1 ∷ 0 ∷ []) 0 0 ≡ refused 22
-  pub n23 : addAnswer ring (0 ∷ 0 ∷ 100000 ∷ 0 ∷ []) ≡ refused 23
-  pub n24 : addAnswer (0 ∷ 0 ∷ 0 ∷ []) (0 ∷ 0 ∷ 100000 ∷ 0 ∷ []) ≡ refused 24
-  pub n25 : rateAnswer (0 ∷ 0 ∷ 0 ∷ 0 ∷ []) 0 0 ≡ refused 25
-  pub n99999 : addAnswer (0 ∷ 0 ∷ 0 ∷ []) (0 ∷ 0 ∷ 99999 ∷ 99999 ∷ []) ≡ success (0 ∷ [])
+  -- the numbers of a tally: with four words a size above 64 is 22, however short the slice; 22 before 24 and 25
+  pub n21 : stateAnswer (64 ∷ 64 ∷ 0 ∷ 0 ∷ []) ≡ refused 21
+  pub n21-head : stateAnswer (65 ∷ 0 ∷ 0 ∷ []) ≡ refused 21
+  pub n22 : stateAnswer (65 ∷ 0 ∷ 0 ∷ 0 ∷ []) ≡ refused 22
+  pub n22-rounds : addAnswer (0 ∷ 0 ∷ 0 ∷ []) (0 ∷ 0 ∷ 100001 ∷ 0 ∷ 0 ∷ []) ≡ refused 22
+  pub n22-fall : rateAnswer (1 ∷ 0 ∷ 1 ∷ 1 ∷ 1 ∷ 0 ∷ []) 0 0 ≡ refused 22
+  pub n22-score : rateAnswer (1 ∷ 0 ∷ 1 ∷ 2 ∷ 0 ∷ 1 ∷ []) 0 0 ≡ refused 22
+  pub n23 : addAnswer ring (0 ∷ 0 ∷ 100000 ∷ 0 ∷ 0 ∷ []) ≡ refused 23
+  pub n24 : addAnswer (0 ∷ 0 ∷ 0 ∷ []) (0 ∷ 0 ∷ 100000 ∷ 0 ∷ 0 ∷ []) ≡ refused 24
+  pub n25 : rateAnswer (0 ∷ 0 ∷ 0 ∷ 0 ∷ 0 ∷ []) 0 0 ≡ refused 25
+  pub n99999 : addAnswer (0 ∷ 0 ∷ 0 ∷ []) (0 ∷ 0 ∷ 99999 ∷ 99999 ∷ 99999 ∷ []) ≡ success (0 ∷ [])
 
 pub table : Table
 unfolding wordAt decimal
@@ -249,6 +250,7 @@ table =
       n22 = refl;
       n22-rounds = refl;
       n22-fall = refl;
+      n22-score = refl;
       n23 = refl;
       n24 = refl;
       n25 = refl;

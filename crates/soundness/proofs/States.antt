@@ -13,7 +13,7 @@ use Rattle.laws.specs.Tests.{or-none}
 use Rattle.laws.specs.Members.{here, there}
 use Rattle.answer.specs.Outcome.{success, refused}
 use Rattle.answer.proofs.Outcomes.{outcome-tests}
-use Rattle.soundness.specs.Tally.{headWords, tallySize1, tallySize2, rounds, words, noRoom, isSound, Sound, stateTests, stateAnswer}
+use Rattle.soundness.specs.Tally.{headWords, tallySize1, tallySize2, rounds, tallyScore, words, noRoom, isSound, Sound, stateTests, stateAnswer}
 use Rattle.soundness.specs.Steps.{isFair}
 use Rattle.soundness.proofs.Sounds.{fair-code, sound-is}
 
@@ -62,13 +62,13 @@ module _ (t : List ℕ) where
         too-many h = unsound roomy (rw (le-leb (tallySize1 t) maxClass (sizes .0), le-leb (tallySize2 t) maxClass (sizes .1), lt-leb (rounds t) maxRounds h))
 
         module _ (few : rounds t ≤ maxRounds) where
-          tested : isSound t ≡ isFair (drop headWords t) (tallySize1 t) (tallySize2 t) (rounds t)
-          tested = rw (le-leb (tallySize1 t) maxClass (sizes .0), le-leb (tallySize2 t) maxClass (sizes .1), le-leb (rounds t) maxRounds few) (sym (fair-code t))
+          tested : isSound t ≡ isFair (drop headWords t) (tallySize1 t) (tallySize2 t) (rounds t) (tallyScore t)
+          tested = rw (le-leb (tallySize1 t) maxClass (sizes .0), le-leb (tallySize2 t) maxClass (sizes .1), le-leb (rounds t) maxRounds few) (sym (fair-code t (sizes .0) (sizes .1) few))
 
-          pub unfair : isFair (drop headWords t) (tallySize1 t) (tallySize2 t) (rounds t) ≡ false → stateAnswer t ≡ refused 22
+          pub unfair : isFair (drop headWords t) (tallySize1 t) (tallySize2 t) (rounds t) (tallyScore t) ≡ false → stateAnswer t ≡ refused 22
           unfair e = unsound roomy (tested ∙ e)
 
-          pub good : isFair (drop headWords t) (tallySize1 t) (tallySize2 t) (rounds t) ≡ true → stateAnswer t ≡ success (0 ∷ [])
+          pub good : isFair (drop headWords t) (tallySize1 t) (tallySize2 t) (rounds t) (tallyScore t) ≡ true → stateAnswer t ≡ success (0 ∷ [])
           good e = rw (roomy, tested ∙ e)
 
 -- ---- what a good state says

@@ -1,4 +1,4 @@
--- DEMAND 2 of tallies and reliability, and request S-2, by induction over the adds and removes.
+-- DEMAND 2 of tallies and reliability, and requests S-2 and S-5, by induction over the adds and removes.
 use mathlib.Core.Path.{_≡_, refl, sym, ap, ap₂, subst, _∙_}
 use mathlib.Core.Logic.{_↔_, _⊎_, inl, inr, ⊎-elim}
 use mathlib.Core.Bool.{Bool, true, false}
@@ -23,11 +23,12 @@ use Rattle.soundness.specs.Tally.{tallySize1, tallySize2, rounds, words, cell, 
 use Rattle.tally.specs.Cells.{tallyOf}
 use Rattle.tally.specs.Calls.{newAnswer, newOut, addAnswer, addOut, removeAnswer, removeOut}
 use Rattle.tally.specs.Steps.{holding, Tallies, Fits}
+use Rattle.tally.proofs.Scores.{Scores, new-scores, add-scores, remove-scores}
 use Rattle.tally.proofs.Runs.{new-tallies, added-fits, add-tallies, remove-succeeds, remove-tallies, holding-reordered, tallies-words}
 use Rattle.reliability.specs.Calls.{rateAnswer}
 use Rattle.reliability.proofs.Answers as answers
 use Rattle.kinds.specs.Kinds as call
-use Rattle.survival.specs.Calls.{Begun, Added, Tallied, Removing, Move, adding, removing, Moved, RemovesSucceed, AllSearched, Rating}
+use Rattle.survival.specs.Calls.{Begun, Added, Tallied, Removing, Move, adding, removing, Moved, RemovesSucceed, Adding, Called, AllSearched, Rating}
 use Rattle.survival.specs.Counts.{Count, HoldsWith}
 
 -- a count is one number
@@ -53,6 +54,18 @@ fresh-answer b = rw (← b .size1-is, ← b .size2-is) (sym (b .made .kept .0) �
 fresh-left : {n1 n2 : ℕ} {t : List ℕ} (b : Begun n1 n2 t) → newOut n1 n2 (call.newLent (b .made)) ≡ t
 fresh-left b = rw (← b .size1-is, ← b .size2-is) (sym (b .made .kept .1) ∙ through-same (b .through))
 
+removing-left : {x u t : List ℕ} (r : Removing x u t) → removeOut x u ≡ t
+removing-left r = ap₂ removeOut (sym (r .record-is)) (sym (r .tally-is)) ∙ sym (r .made .kept .1) ∙ through-same (r .through)
+
+adding-left : {x u t : List ℕ} (a : Adding x u t) → addOut x u ≡ t
+adding-left a = ap₂ addOut (sym (a .record-is)) (sym (a .tally-is)) ∙ sym (a .made .kept .1) ∙ through-same (a .through)
+
+-- THE SCORE after any adds and removes is the sum of the cells
+pub called-scores : (n1 n2 : ℕ) (ms : List Move) (t : List ℕ) → Called n1 n2 ms t → Scores n1 n2 t
+called-scores n1 n2 [] t b = subst (Scores n1 n2) (fresh-left b) (new-scores n1 n2 (call.newLent (b .made)) (fresh-answer b))
+called-scores n1 n2 (adding x ∷ ms) t (u, c, a) = subst (Scores n1 n2) (adding-left a) (add-scores x u (called-scores n1 n2 ms u c))
+called-scores n1 n2 (removing x ∷ ms) t (u, c, r) = subst (Scores n1 n2) (removing-left r) (remove-scores x u (called-scores n1 n2 ms u c))
+
 -- THE TALLY OF THESE RECORDS, each of which fits
 pub record Run (n1 n2 : ℕ) (xs : List (List ℕ)) (t : List ℕ) : Type 0 where
   pub slice : List ℕ
@@ -68,15 +81,12 @@ added-run : {n1 n2 : ℕ} {x u t : List ℕ} {xs : List (List ℕ)} → Run n1 n
 added-run {n1} {n2} {x} {u} {t} {xs} d a =
     record {
       slice = d .slice;
-      tallies = subst (λ y. Tallies (d .slice) y n1 n2 (x ∷ xs)) left (add-tallies (d .tallies) x answer);
+      tallies = subst (λ y. Tallies (d .slice) y n1 n2 (x ∷ xs)) (adding-left (a .called)) (add-tallies (d .tallies) x answer);
       fits = each;
     }
   where
     answer : addAnswer x u ≡ success (0 ∷ [])
-    answer = ap₂ addAnswer (sym (a .record-is)) (sym (a .tally-is)) ∙ sym (a .made .kept .0) ∙ a .success-is
-
-    left : addOut x u ≡ t
-    left = ap₂ addOut (sym (a .record-is)) (sym (a .tally-is)) ∙ sym (a .made .kept .1) ∙ through-same (a .through)
+    answer = let c = a .called in ap₂ addAnswer (sym (c .record-is)) (sym (c .tally-is)) ∙ sym (c .made .kept .0) ∙ a .success-is
 
     each : (y : List ℕ) → y ∈ x ∷ xs → Fits n1 n2 y
     each y (List·Memᴰ·head e) = rw e (added-fits (d .tallies) x answer)
@@ -88,16 +98,13 @@ removed-run {n1} {n2} {x} {u} {t} {xs} {ys} d r w = (
   r .made .kept .0 ∙ ap₂ removeAnswer (r .record-is) (r .tally-is) ∙ remove-succeeds (d .tallies) w fit,
   record {
     slice = d .slice;
-    tallies = subst (λ y. Tallies (d .slice) y n1 n2 ys) left (remove-tallies (d .tallies) w fit);
+    tallies = subst (λ y. Tallies (d .slice) y n1 n2 ys) (removing-left r) (remove-tallies (d .tallies) w fit);
     fits = λ y m. d .fits y (with-others w m);
   },
 )
   where
     fit : Fits n1 n2 x
     fit = d .fits x (with-in w)
-
-    left : removeOut x u ≡ t
-    left = ap₂ removeOut (sym (r .record-is)) (sym (r .tally-is)) ∙ sym (r .made .kept .1) ∙ through-same (r .through)
 
 pub run : (n1 n2 : ℕ) (xs : List (List ℕ)) (t : List ℕ) → Tallied n1 n2 xs t → Run n1 n2 xs t
 run n1 n2 [] t b = begun-run b
@@ -201,12 +208,15 @@ module _ {n1 n2 : ℕ} (qs : List (List ℕ × ℕ)) {xs : List (List ℕ)} {t :
   pub counts : (l1 l2 : ℕ) → l1 ≤ n1 → l2 ≤ n2 → Count (HoldsWith n1 n2 l1 l2) qs (cell t l1 l2)
   counts l1 l2 h k = joined n1 n2 qs xs (d .fits) s l1 l2 (cell t l1 l2) (cells d l1 l2 h k)
 
+  -- the cells are what removal counts
+  pub counts-are : (by-removal : ℕ → ℕ → ℕ) → ((l1 l2 : ℕ) → l1 ≤ n1 → l2 ≤ n2 → Count (HoldsWith n1 n2 l1 l2) qs (by-removal l1 l2))
+      → (l1 l2 : ℕ) → l1 ≤ n1 → l2 ≤ n2 → by-removal l1 l2 ≡ cell t l1 l2
+  counts-are by-removal are l1 l2 h k = count-one (HoldsWith n1 n2 l1 l2) qs (by-removal l1 l2) (cell t l1 l2) (are l1 l2 h k) (counts l1 l2 h k)
+
   -- reliability on the counts that removal finds
   pub near-rounds : (by-removal : ℕ → ℕ → ℕ) → ((l1 l2 : ℕ) → l1 ≤ n1 → l2 ≤ n2 → Count (HoldsWith n1 n2 l1 l2) qs (by-removal l1 l2))
       → (p1 p2 v m r : ℕ) → Rating t p1 p2 v m r → (m ≡ length qs) × Near n1 n2 p1 p2 by-removal v m r
   near-rounds by-removal are p1 p2 v m r rate =
       let n = rated t p1 p2 v m r rate in
       let z = sizes d in
-      let one : (l1 l2 : ℕ) → l1 ≤ n1 → l2 ≤ n2 → by-removal l1 l2 ≡ cell t l1 l2 = λ l1 l2 h k.
-      count-one (HoldsWith n1 n2 l1 l2) qs (by-removal l1 l2) (cell t l1 l2) (are l1 l2 h k) (counts l1 l2 h k) in
-      (n .0 ∙ many d ∙ as-many qs xs s, near-same (formula-same n1 n2 p1 p2 by-removal (cell t) one) (rw (← z .0, ← z .1) (n .1)))
+      (n .0 ∙ many d ∙ as-many qs xs s, near-same (formula-same n1 n2 p1 p2 by-removal (cell t) (counts-are by-removal are)) (rw (← z .0, ← z .1) (n .1)))

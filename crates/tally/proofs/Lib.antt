@@ -7,3 +7,4 @@ pub mod Readies
 pub mod Changes
 pub mod Edges
 pub mod Runs
+pub mod Scores

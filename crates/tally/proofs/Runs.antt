@@ -152,7 +152,7 @@ module _ {t₀ t : List ℕ} {n1 n2 : ℕ} {rs : List (List ℕ)} (s : Tallies t
       let c : ℕ → ℕ → ℕ = λ l1 l2. many (n1 - l1) (n2 - l2) in
       let past = drop (words n1 n2) t in
       ap (take (words n1 n2))
-      (sym (tally-same n1 n2 (length rs) c past t (s .one) (s .two) (s .many) (omega (arith, s .room, s .long)) (λ l1 l2 h k. e (n1 - l1) (n2 - l2) ∙ sym (s .cells l1 l2 h k)) refl))
+      (sym (tally-same n1 n2 (length rs) c past t (s .one) (s .two) (s .many) (s .sound .total) (omega (arith, s .room, s .long)) (λ l1 l2 h k. e (n1 - l1) (n2 - l2) ∙ sym (s .cells l1 l2 h k)) refl))
       ∙ take-at (tallyOf n1 n2 (length rs) c) past (words n1 n2) (tally-length n1 n2 (length rs) c)
 
 -- ---- ADDING BACK what was removed restores every word
@@ -192,7 +192,7 @@ module _ (r t : List ℕ) (e : removeAnswer r t ≡ success (0 ∷ [])) where
 
   restored : added r u ++ drop (length (added r u)) u ≡ t
   restored =
-      tally-same n1 n2 (rounds u + 1) (λ l1 l2. cell u l1 l2 + held r n1 n2 l1 l2) (drop (length (added r u)) u) t refl refl (omega (arith, low .0)) (ready-room r t ready)
+      tally-same n1 n2 (rounds u + 1) (λ l1 l2. cell u l1 l2 + held r n1 n2 l1 l2) (drop (length (added r u)) u) t refl refl (omega (arith, low .0)) (ready-sound r t ready .total) (ready-room r t ready)
       (λ l1 l2 h k. omega (arith, tally-cell n1 n2 (rounds t - 1) less rest l1 l2 h k, low .1 l1 l2 h k))
       (drop-at (removed r t) rest (length (added r u)) (long ∙ sym again) ∙ ap (λ k. drop k t) long)
     where

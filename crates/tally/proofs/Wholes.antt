@@ -6,7 +6,8 @@ use Prim.Native.Nat.{ℕ, suc, _≤_}
 use native.Mathlib.Omega.{arith}
 use Rattle.limits.specs.Limits.{maxRounds, maxClass}
 use Rattle.chance.specs.Chance.{Grows}
-use Rattle.soundness.specs.Tally.{Sound}
+use Rattle.soundness.specs.Tally.{cell, Sound}
+use Rattle.soundness.proofs.Totals.{total-same}
 use Rattle.tally.specs.Cells.{tallyOf}
 use Rattle.tally.proofs.Headings.{tally-cell}
 
@@ -22,5 +23,7 @@ grows-same e g =
 pub tally-sound : (n1 n2 m : ℕ) (c : ℕ → ℕ → ℕ) (l : List ℕ) → Sound (tallyOf n1 n2 m c ++ l) ↔ ((n1 ≤ maxClass) × (n2 ≤ maxClass) × (m ≤ maxRounds) × Grows n1 n2 m c)
 tally-sound n1 n2 m c l = (
   λ s. (s .small1, s .small2, s .few, grows-same (tally-cell n1 n2 m c l) (s .grows)),
-  λ k. record { small1 = k .0; small2 = k .1; few = k .2; grows = grows-same (λ l1 l2 p q. sym (tally-cell n1 n2 m c l l1 l2 p q)) (k .3) },
+  λ k.
+      let same : (l1 l2 : ℕ) → l1 ≤ n1 → l2 ≤ n2 → c l1 l2 ≡ cell (tallyOf n1 n2 m c ++ l) l1 l2 = λ l1 l2 p q. sym (tally-cell n1 n2 m c l l1 l2 p q) in
+      record { small1 = k .0; small2 = k .1; few = k .2; grows = grows-same same (k .3); total = total-same n1 n2 c (cell (tallyOf n1 n2 m c ++ l)) same },
 )

@@ -1,4 +1,4 @@
--- What new (01: fresh), add and remove (02: take) answer and leave.
+-- What new (01: fresh), add and remove (02: take) answer and leave, and what score answers.
 use mathlib.Core.Bool.{Bool, not, _&&_, _||_}
 use mathlib.Core.List.{List, [], _∷_, _++_}
 use Prim.Native.Nat.{ℕ, _+_, _-_}
@@ -9,7 +9,7 @@ use Rattle.laws.specs.Tests.{flag}
 use Rattle.laws.specs.Every.{every}
 use Rattle.answer.specs.Outcome.{Outcome, outcome, filled}
 use Rattle.record.specs.Record.{isRecord, recordHolds, recordSize1, recordSize2}
-use Rattle.soundness.specs.Tally.{tallySize1, tallySize2, rounds, words, cell, noRoom, isSound}
+use Rattle.soundness.specs.Tally.{headWords, tallySize1, tallySize2, rounds, tallyScore, words, cell, noRoom, isSound}
 use Rattle.tally.specs.Cells.{tallyOf}
 
 -- ---- NEW (6, 21)
@@ -19,7 +19,7 @@ newTests n1 n2 room = (6, ltb maxClass n1 || ltb maxClass n2) ∷ (21, ltb room 
 abbrev pub newAnswer : ℕ → ℕ → ℕ → Outcome
 newAnswer n1 n2 room = outcome (newTests n1 n2 room) (0 ∷ [])
 
--- no front was added: M and every cell are 0
+-- no front was added: M, the score and every cell are 0
 abbrev pub newOut : ℕ → ℕ → List ℕ → List ℕ
 newOut n1 n2 t = filled (newAnswer n1 n2 (length t)) (tallyOf n1 n2 0 (λ l1 l2. 0)) t
 
@@ -41,7 +41,7 @@ addTests r t = readyTests r t ++ (24, eqb (rounds t) maxRounds) ∷ []
 abbrev pub addAnswer : List ℕ → List ℕ → Outcome
 addAnswer r t = outcome (addTests r t) (0 ∷ [])
 
--- M and each cell where the record holds raised by 1
+-- M and each cell where the record holds raised by 1; the score is told by the cells (`tallyOf`)
 abbrev pub added : List ℕ → List ℕ → List ℕ
 added r t = tallyOf (tallySize1 t) (tallySize2 t) (rounds t + 1) (λ l1 l2. cell t l1 l2 + held r (tallySize1 t) (tallySize2 t) l1 l2)
 
@@ -71,3 +71,10 @@ removeAnswer r t = outcome (removeTests r t) (0 ∷ [])
 
 abbrev pub removeOut : List ℕ → List ℕ → List ℕ
 removeOut r t = filled (removeAnswer r t) (removed r t) t
+
+-- ---- SCORE (21): the fourth word, whatever the cells are
+abbrev pub scoreTests : List ℕ → List (ℕ × Bool)
+scoreTests t = (21, ltb (length t) headWords) ∷ []
+
+abbrev pub scoreAnswer : List ℕ → Outcome
+scoreAnswer t = outcome (scoreTests t) (tallyScore t ∷ [])

@@ -7,7 +7,7 @@ use lib.Dec.{T, eqb, leb, ltb}
 use lib.ListN.{length, getD, drop, take}
 use Rattle.limits.specs.Limits.{maxPosition}
 use Rattle.record.specs.Record.{isRecord, listed, recordHolds, recordSize1, recordSize2}
-use Rattle.soundness.specs.Tally.{headWords, tallySize1, tallySize2, rounds, width, words, cell, Sound}
+use Rattle.soundness.specs.Tally.{headWords, tallySize1, tallySize2, rounds, tallyScore, width, words, cell, cellSum, Sound}
 use Rattle.laws.specs.Tests.{flag}
 use Rattle.laws.specs.Lists.{listTo}
 use Rattle.laws.specs.Members.{_∈_}
@@ -15,7 +15,7 @@ use Rattle.laws.specs.Every.{every}
 use Rattle.answer.specs.Outcome.{Outcome, outcome}
 use Rattle.front.specs.declared.Pair.{Pair}
 use Rattle.front.specs.Pair.{pairOf}
-use Rattle.tally.specs.Calls.{readyTests}
+use Rattle.tally.specs.Calls.{readyTests, held}
 use Rattle.tally.specs.Cells.{cellRows, tallyOf}
 
 abbrev pub readyAnswer : List ℕ → List ℕ → Outcome
@@ -39,7 +39,7 @@ abbrev pub peakAt : List Pair → ℕ → ℕ
 peakAt [] x = 0
 peakAt (p ∷ l) x = max (cond (eqb (p .p1 .0) x) (p .p2 .0) 0) (peakAt l x)
 
--- ---- add and remove as the code has them: `up` more and then `down` fewer in M and in each cell where the record holds
+-- ---- add and remove as the code has them: `up` more and then `down` fewer in M and in each cell where the record holds; the score follows
 abbrev pub changedWord : ℕ → ℕ → ℕ → ℕ
 changedWord up down x = x + up - down
 
@@ -70,6 +70,10 @@ abbrev pub changedCells : ℕ → ℕ → List ℕ → ℕ → ℕ → List ℕ 
 changedCells up down r n1 n2 cells =
     cellRows (n1 + 1) (width n2) (λ l1 l2. changedCell up down r n1 n2 l1 l2 (getD cells (l1 * width n2 + l2) 0)) ++ drop ((n1 + 1) * width n2) cells
 
+-- how many cells the record holds in
+abbrev pub heldCells : List ℕ → ℕ → ℕ → ℕ
+heldCells r n1 n2 = cellSum n1 n2 (held r n1 n2)
+
 -- a whole tally
 pub record Changing (up down : ℕ) (r t : List ℕ) : Type 0 where
   -- the tally has its head, and the record fits
@@ -78,6 +82,9 @@ pub record Changing (up down : ℕ) (r t : List ℕ) : Type 0 where
   -- M and the cells where the record holds can be changed
   pub many : CanChange up down (rounds t)
   pub each : CellsCanChange up down r (tallySize1 t) (tallySize2 t) (drop headWords t)
+  -- the score is the cells' sum, and can be changed by as many cells
+  pub total : tallyScore t ≡ cellSum (tallySize1 t) (tallySize2 t) (cell t)
+  pub sum : let n = heldCells r (tallySize1 t) (tallySize2 t) in CanChange (n * up) (n * down) (tallyScore t)
 
 abbrev pub changedTally : ℕ → ℕ → List ℕ → List ℕ → List ℕ
 changedTally up down r t =

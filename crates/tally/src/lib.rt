@@ -1,6 +1,7 @@
 // Tallies: for each count of working nodes, how many of the rounds that were added hold.
 use answer::Done;
 use answer::Refusal;
+use answer::Scored;
 use front::Pair;
 use front::Pos1;
 use front::Pos2;
@@ -10,6 +11,7 @@ use slices::wide_word;
 use soundness::FULL;
 use soundness::HEAD;
 use soundness::ROUNDS;
+use soundness::SCORE;
 ghost use mathlib.Core.Path.{_≡_};
 ghost use mathlib.Core.Bool.{_||_};
 ghost use mathlib.Core.List.{[], _∷_, _++_};
@@ -18,12 +20,12 @@ ghost use lib.Dec.{T, ltb};
 ghost use lib.ListN.{length, getD, set, drop, replicate};
 ghost use Rattle.limits.specs.Limits.{maxPosition};
 ghost use Rattle.laws.specs.Every.{every};
-ghost use Rattle.answer.specs.Outcome.{success, done};
+ghost use Rattle.answer.specs.Outcome.{success, done, scored};
 ghost use Rattle.record.specs.Record.{listed, isRecord, recordHolds};
-ghost use Rattle.soundness.specs.Tally.{headWords, roundsPlace, rounds, width};
+ghost use Rattle.soundness.specs.Tally.{headWords, width};
 ghost use Rattle.tally.specs.Steps.{turn, turnAll, peakAt, readyAnswer, startsLine, Lines, lineTest, edgesTest};
-ghost use Rattle.tally.specs.Steps.{changedWord, CanChange, changedPart, Fitting, CellsCanChange, changedCells, Changing, changedTally};
-ghost use Rattle.tally.specs.Calls.{newAnswer, newOut, fitsTally, addAnswer, addOut, removable, removeAnswer, removeOut};
+ghost use Rattle.tally.specs.Steps.{changedWord, CanChange, changedPart, Fitting, CellsCanChange, changedCells, heldCells, Changing, changedTally};
+ghost use Rattle.tally.specs.Calls.{newAnswer, newOut, fitsTally, addAnswer, addOut, removable, removeAnswer, removeOut, scoreAnswer};
 
 // ---- new
 // Zeros in the first n places.
@@ -110,41 +112,47 @@ fn change_part(cells: &mut [u32], from: usize, n: usize, up: u32, down: u32)
 }
 
 // Changes each cell where the record holds, a row at a time: with fewer failures of class 1 the
-// height is no lower.
-fn change_rows(cells: &mut [u32], record: &[u8], n1: u8, n2: u8, up: u32, down: u32)
+// height is no lower. How many cells they are.
+fn change_rows(cells: &mut [u32], record: &[u8], n1: u8, n2: u8, up: u32, down: u32) -> u32
     requires { ⌜ Fitting (now cells) (now «record») n1 n2 × CellsCanChange up down (now «record») n1 n2 (now cells) ⌝ }
-    ensures { λ _. ⌜ now (cells .exit) ≡ changedCells up down (now («record» .entry)) n1 n2 (now (cells .entry)) ⌝ }
+    ensures count { λ r. ⌜ r ≡ heldCells (now («record» .entry)) n1 n2 ⌝ }
+    ensures slice { λ _. ⌜ now (cells .exit) ≡ changedCells up down (now («record» .entry)) n1 n2 (now (cells .entry)) ⌝ }
 {
     let top = heights(record, false);
     let w = slices::wide(n2) + 1;
     let mut y = Pos2(0);
+    let mut n = 0;
     let mut at = 0;
     let mut x = slices::wide(n1) + 1;
     while 0 < x {
         y = larger(y, Pos2(top[x]));
         let k = slices::wide(y.0);
         change_part(cells, at + (w - k), k, up, down);
+        n += k;
         at += w;
         x -= 1;
     }
+    n as u32
 }
 
-fn change_rounds(tally: &mut [u32], up: u32, down: u32)
-    requires { ⌜ (headWords ≤ length (now tally)) × CanChange up down (rounds (now tally)) ⌝ }
-    ensures { λ _. ⌜ now (tally .exit) ≡ set (now (tally .entry)) roundsPlace (changedWord up down (rounds (now (tally .entry)))) ⌝ }
+// A word of the head changed.
+fn change_word(tally: &mut [u32], at: usize, up: u32, down: u32)
+    requires { ⌜ (at < length (now tally)) × CanChange up down (getD (now tally) at 0) ⌝ }
+    ensures { λ _. ⌜ now (tally .exit) ≡ set (now (tally .entry)) at (changedWord up down (getD (now (tally .entry)) at 0)) ⌝ }
 {
-    let m = tally[ROUNDS];
-    tally[ROUNDS] = m + up - down;
+    let x = tally[at];
+    tally[at] = x + up - down;
 }
 
-// Changes M and each cell where the record holds.
+// Changes M and each cell where the record holds, and the score by as many cells.
 fn change(record: &[u8], tally: &mut [u32], up: u32, down: u32)
     requires { ⌜ Changing up down (now «record») (now tally) ⌝ }
     ensures { λ _. ⌜ now (tally .exit) ≡ changedTally up down (now («record» .entry)) (now (tally .entry)) ⌝ }
 {
-    change_rounds(tally, up, down);
+    change_word(tally, ROUNDS, up, down);
     let head = record::read_head(record);
-    change_rows(&mut tally[HEAD..], record, head.n1, head.n2, up, down);
+    let n = change_rows(&mut tally[HEAD..], record, head.n1, head.n2, up, down);
+    change_word(tally, SCORE, n * up, n * down);
 }
 
 // Whether the record has the tally's class sizes.
@@ -301,4 +309,16 @@ pub fn remove(record: &[u8], tally: &mut [u32]) -> Done
         Done::Refused(r) => Done::Refused(r),
         Done::Done => remove_from(record, tally),
     }
+}
+
+// ---- score
+// The sum of all cells, as its word has it: no cell is read, and soundness is not tested. Number 21
+// below the words of the head.
+pub fn score(tally: &[u32]) -> Scored
+    ensures { λ r. ⌜ scored r ≡ scoreAnswer (now (tally .entry)) ⌝ }
+{
+    if tally.len() < HEAD {
+        return Scored::Refused(Refusal::TallyShort);
+    }
+    Scored::Score(tally[SCORE])
 }

@@ -1,6 +1,6 @@
 // Every refusal of every call on document 01's sample ring. A case is a list of words: sizes and
-// numbers to pass, a study file, two records and a tally. Each case differs from the good one in
-// one word.
+// numbers to pass, a study file, two records and a tally. Each case differs in one word from the good
+// one, or from one that is named beside its list.
 //
 //   0 node bytes, 1 arc bytes, 2 round bytes, 3 s, 4 t, 5 M, 6 room for the file
 //   7 the file's length, 8 the round's number, 9 room for the front
@@ -9,11 +9,13 @@
 //   weights, 19 the age
 //   20 the file: 6 nodes, 65 bytes between that make a class too large if read as nodes, 91 arcs,
 //   112 round, 116 trailer
-//   148 the first record, 157 the second, 162 the tally: no cell above 0, but for remove
+//   148 the first record, 157 the second, 162 the tally, its score 165 and its cells from 166 on: no
+//   cell above 0, but for remove and score
 use answer::Aged;
 use answer::Done;
 use answer::Opened;
 use answer::Rated;
+use answer::Scored;
 use answer::Written;
 use libc::STDOUT_FILENO;
 use test_support::byte;
@@ -32,6 +34,9 @@ const CHANGED: u64 = 99;
 
 // A place that no slice has.
 const PAST: u64 = 1000000;
+
+// The words of a case.
+const CASE: usize = 175;
 
 // The calls, for dispatch and for what was seen.
 const WRITER: u64 = 0;
@@ -58,6 +63,11 @@ const RELIABILITY: u64 = 10;
 
 const REMOVE: u64 = 11;
 
+const SCORE: u64 = 12;
+
+// The words of the ring's tallies.
+const TALLY: usize = 13;
+
 // ---- cases
 // Puts the numbers of a text into a case.
 fn set(case: &mut [u32], at: usize, text: &[u8])
@@ -75,7 +85,7 @@ fn good(case: &mut [u32]) {
     set(
         case,
         0,
-        b"6 21 4 0 1 1 63 128 0 9 9 5 7 12 500000 500000 2 2 3 30",
+        b"6 21 4 0 1 1 63 128 0 9 9 5 7 13 500000 500000 2 2 3 30",
     );
     set(case, 20, b"0 0 1 1 2 2");
     set(
@@ -89,16 +99,16 @@ fn good(case: &mut [u32]) {
         b"6 0 0 0 7 0 0 0 1 0 0 0 0 0 0 0 1 0 0 0 96 0 0 0 25 0 0 0 4 0 0 0",
     );
     set(case, 148, b"2 2 3 3 1 2 2 1 3 2 2 1 2 3");
-    set(case, 162, b"2 2 1 0 0 0 0 0 0 0 0 0");
+    set(case, 162, b"2 2 1 0 0 0 0 0 0 0 0 0 0");
 }
 
 // The tally of two rounds, one of them the first record's: what remove takes back.
 fn good_for(call: u64, case: &mut [u32]) {
     good(case);
-    if call != REMOVE {
+    if call < REMOVE {
         return;
     }
-    set(case, 162, b"2 2 2 0 0 1 0 1 1 1 1 2");
+    set(case, 162, b"2 2 2 7 0 0 1 0 1 1 1 1 2");
 }
 
 fn size(case: &[u32], at: usize) -> usize
@@ -178,6 +188,14 @@ fn aged(a: Aged) -> u64 {
     match a {
         Aged::Chance(_) => 0,
         Aged::Refused(r) => answer::number(r) as u64,
+    }
+}
+
+// A score that is not the word counts as a refusal of no number.
+fn scored(s: Scored, due: u64) -> u64 {
+    match s {
+        Scored::Score(n) => CHANGED * flag(n as u64 != due),
+        Scored::Refused(r) => answer::number(r) as u64,
     }
 }
 
@@ -273,10 +291,10 @@ fn lend_words(call: u64, case: &[u32], given: &[u8], words: &mut [u32]) -> u64 {
 
 fn call_words(call: u64, case: &[u32]) -> u64 {
     let mut given = [0u8; 14];
-    let mut words = [0u32; 12];
+    let mut words = [0u32; TALLY];
     bytes_of(case, 148, &mut given);
     words_of(case, 162, &mut words);
-    let n = room(case, if call == WEIGHTS { 18 } else { 13 }, 12);
+    let n = room(case, if call == WEIGHTS { 18 } else { 13 }, TALLY);
     lend_words(call, case, &given, &mut words[0..n])
 }
 
@@ -302,10 +320,18 @@ fn call_check(case: &[u32]) -> u64 {
     told(number, bytes_kept(case, 20, &bytes))
 }
 
-fn call_reliability(case: &[u32]) -> u64 {
-    let mut words = [0u32; 12];
+fn call_score(case: &[u32]) -> u64 {
+    let mut words = [0u32; TALLY];
     words_of(case, 162, &mut words);
-    let n = room(case, 13, 12);
+    let n = room(case, 13, TALLY);
+    let s = tally::score(&words[0..n]);
+    told(scored(s, word(case, 165)), words_kept(case, 162, &words))
+}
+
+fn call_reliability(case: &[u32]) -> u64 {
+    let mut words = [0u32; TALLY];
+    words_of(case, 162, &mut words);
+    let n = room(case, 13, TALLY);
     let p1 = word(case, 14) as u32;
     let p2 = word(case, 15) as u32;
     let r = reliability::reliability(&words[0..n], p1, p2);
@@ -324,6 +350,9 @@ fn call_on(call: u64, case: &[u32]) -> u64 {
     }
     if call == RELIABILITY {
         return call_reliability(case);
+    }
+    if call == SCORE {
+        return call_score(case);
     }
     if call <= PARALLEL {
         return call_bytes(call, case);
@@ -346,13 +375,13 @@ fn due(call: u64, number: u64) -> u64 {
     number
 }
 
-// Change k of a list, at a call: 1 if the answer is not the number that is due.
-fn try_change(call: u64, list: &[u8], k: u64, seen: &mut [u8]) -> u64
-    requires { ⌜ (k ≤ 1000) × (call ≤ 11) ⌝ }
+// Change k of a list to a case, at a call: 1 if the answer is not the number that is due.
+fn try_change(call: u64, base: &[u32], list: &[u8], k: u64, seen: &mut [u8]) -> u64
+    requires { ⌜ (k ≤ 1000) × (call ≤ 12) ⌝ }
     ensures { λ r. ⌜ r ≤ 1 ⌝ }
 {
-    let mut case = [1u32; 174];
-    good_for(call, &mut case);
+    let mut case = [0u32; CASE];
+    words_of(base, 0, &mut case);
     put(
         &mut case,
         field(list, 3 * k) as usize,
@@ -368,19 +397,40 @@ fn try_change(call: u64, list: &[u8], k: u64, seen: &mut [u8]) -> u64
     flag(number != due(call, field(list, 3 * k + 2)))
 }
 
-// How many changes of a list are answered wrongly.
-fn try_list(call: u64, list: &[u8], seen: &mut [u8]) -> u64
-    requires { ⌜ call ≤ 11 ⌝ }
+// How many changes of a list to a case are answered wrongly.
+fn try_from(call: u64, base: &[u32], list: &[u8], seen: &mut [u8]) -> u64
+    requires { ⌜ call ≤ 12 ⌝ }
     ensures { λ r. ⌜ r ≤ 400 ⌝ }
 {
     let n = fields(list) / 3;
     let mut wrong: u64 = 0;
     let mut k: u64 = 0;
     while k < n {
-        wrong += try_change(call, list, k, seen);
+        wrong += try_change(call, base, list, k, seen);
         k += 1;
     }
     wrong
+}
+
+// The changes to the good case.
+fn try_list(call: u64, list: &[u8], seen: &mut [u8]) -> u64
+    requires { ⌜ call ≤ 12 ⌝ }
+    ensures { λ r. ⌜ r ≤ 400 ⌝ }
+{
+    let mut case = [1u32; CASE];
+    good_for(call, &mut case);
+    try_from(call, &case, list, seen)
+}
+
+// The changes to the good case with the numbers of a text from a place on.
+fn try_with(call: u64, at: usize, text: &[u8], list: &[u8], seen: &mut [u8]) -> u64
+    requires { ⌜ (call ≤ 12) × (at ≤ 1000) ⌝ }
+    ensures { λ r. ⌜ r ≤ 400 ⌝ }
+{
+    let mut case = [1u32; CASE];
+    good_for(call, &mut case);
+    set(&mut case, at, text);
+    try_from(call, &case, list, seen)
 }
 
 fn try_writer(seen: &mut [u8]) -> u64
@@ -434,48 +484,119 @@ fn try_join(call: u64, seen: &mut [u8]) -> u64
     )
 }
 
-fn try_tallies(seen: &mut [u8]) -> u64
-    ensures { λ r. ⌜ r ≤ 1200 ⌝ }
-{
-    let a = try_list(NEW, b"13 12 0,16 65 6,17 65 6,13 11 21,13 2 21", seen);
-    let b = try_list(
-        ADD,
-        b"13 12 0,150 4 12,10 8 12,13 11 21,13 2 21,162 65 22,164 100001 22,165 1 22,165 2 22",
-        seen,
-    );
-    let c = try_list(ADD, b"148 3 23,149 3 23,164 100000 24", seen);
-    a + b + c
-}
-
-// Add's numbers but 24; then a cell to be lowered is 0, or the outcome is not sound.
-fn try_removes(seen: &mut [u8]) -> u64
+// The words before the cells, and the score: at each call that tests a tally. In four words a size
+// above 64 is 22, in three it is 21.
+fn try_head(call: u64, seen: &mut [u8]) -> u64
+    requires { ⌜ call ≤ 12 ⌝ }
     ensures { λ r. ⌜ r ≤ 800 ⌝ }
 {
-    let a = try_list(
-        REMOVE,
-        b"13 12 0,173 1 0,164 100000 0,150 4 12,10 8 12,13 11 21,13 2 21,162 65 22,164 100001 22",
-        seen,
-    );
-    let b = try_list(
-        REMOVE,
-        b"164 1 22,164 0 22,165 1 22,148 3 23,149 3 23,167 0 31,166 1 31,168 1 31",
+    let a = try_with(call, 162, b"65 0 0 0", b"13 4 22,13 3 21,13 0 21", seen);
+    let b = try_with(
+        call,
+        162,
+        b"2 2 2 7 0 0 1 0 1 1 1 1 2",
+        b"165 7 0,165 6 22,165 8 22,165 0 22,13 12 21,13 4 21,13 3 21",
         seen,
     );
     a + b
 }
 
+fn try_new(seen: &mut [u8]) -> u64
+    ensures { λ r. ⌜ r ≤ 800 ⌝ }
+{
+    let a = try_list(
+        NEW,
+        b"13 13 0,16 65 6,17 65 6,13 12 21,13 4 21,13 3 21",
+        seen,
+    );
+    a + try_with(NEW, 16, b"0 0", b"13 5 0,13 4 21,13 3 21", seen)
+}
+
+// With a score of 1 or 2 a cell alone is wrong, or the score and what 23 and 24 test.
+fn try_add(seen: &mut [u8]) -> u64
+    ensures { λ r. ⌜ r ≤ 2400 ⌝ }
+{
+    let a = try_list(
+        ADD,
+        b"13 13 0,150 4 12,10 8 12,13 12 21,13 3 21,162 65 22,164 100001 22,165 1 22,166 1 22,174 1 22",
+        seen,
+    );
+    let b = try_list(ADD, b"148 3 23,149 3 23,164 100000 24", seen);
+    let c = try_with(
+        ADD,
+        165,
+        b"1",
+        b"174 1 0,150 4 12,13 12 21,166 1 22,148 3 22,149 3 22,164 100000 22",
+        seen,
+    );
+    let d = try_with(ADD, 165, b"2", b"174 2 22", seen);
+    a + b + c + d + try_head(ADD, seen)
+}
+
+// Add's numbers but 24; then a cell to be lowered is 0, or the outcome is not sound: 31 with the score
+// that the change leaves, else 22.
+fn try_remove(seen: &mut [u8]) -> u64
+    ensures { λ r. ⌜ r ≤ 2400 ⌝ }
+{
+    let a = try_list(
+        REMOVE,
+        b"13 13 0,164 100000 0,150 4 12,10 8 12,13 12 21,13 3 21,162 65 22,164 100001 22,164 1 22,164 0 22",
+        seen,
+    );
+    let b = try_list(
+        REMOVE,
+        b"165 6 22,165 8 22,168 0 22,167 1 22,169 1 22,148 3 23,149 3 23",
+        seen,
+    );
+    let c = try_with(
+        REMOVE,
+        165,
+        b"6",
+        b"174 1 0,168 0 31,150 4 12,13 12 21,148 3 22",
+        seen,
+    );
+    let d = try_with(REMOVE, 165, b"8", b"166 1 22,167 1 31,169 1 31", seen);
+    a + b + c + d + try_head(REMOVE, seen)
+}
+
+// Score's one number; what the other calls refuse it passes.
+fn try_score(seen: &mut [u8]) -> u64
+    ensures { λ r. ⌜ r ≤ 800 ⌝ }
+{
+    let a = try_list(
+        SCORE,
+        b"13 13 0,13 12 0,13 4 0,13 3 21,13 2 21,13 1 21,13 0 21,162 65 0,163 65 0,164 100001 0,164 0 0,165 6 0,166 1 0",
+        seen,
+    );
+    a + try_with(SCORE, 162, b"65 0 0 0", b"13 4 0,13 3 21", seen)
+}
+
 fn try_chances(seen: &mut [u8]) -> u64
-    ensures { λ r. ⌜ r ≤ 1600 ⌝ }
+    ensures { λ r. ⌜ r ≤ 800 ⌝ }
 {
     let a = try_list(AGEING, b"19 30 0,19 31 14", seen);
     let b = try_list(WEIGHTS, b"18 3 0,16 65 6,14 1000001 14,18 2 15", seen);
-    let c = try_list(RELIABILITY, b"13 12 0,14 1000001 14,15 1000001 14", seen);
-    let d = try_list(
+    a + b
+}
+
+// As for add; the score and what 25 tests.
+fn try_reliability(seen: &mut [u8]) -> u64
+    ensures { λ r. ⌜ r ≤ 2000 ⌝ }
+{
+    let a = try_list(
         RELIABILITY,
-        b"13 11 21,13 2 21,162 65 22,164 100001 22,165 1 22,173 2 22,164 0 25",
+        b"13 13 0,14 1000001 14,15 1000001 14,13 12 21,13 3 21,162 65 22,164 100001 22,165 1 22,166 1 22,174 1 22,164 0 25",
         seen,
     );
-    a + b + c + d
+    let b = try_with(
+        RELIABILITY,
+        165,
+        b"1",
+        b"174 1 0,14 1000001 14,13 12 21,166 1 22,164 0 22",
+        seen,
+    );
+    let c = try_with(RELIABILITY, 165, b"2", b"174 2 22", seen);
+    a + b + c + try_head(RELIABILITY, seen)
 }
 
 // ---- output
@@ -486,7 +607,7 @@ fn show_number(k: u64) {
 
 // A line: the call's name and the numbers that it refused with.
 fn show(name: &[u8], call: usize, seen: &[u8])
-    requires { ⌜ call ≤ 11 ⌝ }
+    requires { ⌜ call ≤ 12 ⌝ }
 {
     io::write_all(STDOUT_FILENO, name);
     let mut k: usize = 1;
@@ -512,20 +633,21 @@ fn show_all(seen: &[u8]) {
     show(b"weights refused", 9, seen);
     show(b"reliability refused", 10, seen);
     show(b"remove refused", 11, seen);
+    show(b"score refused", 12, seen);
 }
 
 // Tries all, prints what was refused, and tells how many answers were wrong.
 pub fn try_refusals() -> u64
-    ensures { λ r. ⌜ r ≤ 10000 ⌝ }
+    ensures { λ r. ⌜ r ≤ 20000 ⌝ }
 {
-    let mut seen = [0u8; 480];
+    let mut seen = [0u8; 520];
     let w = try_writer(&mut seen);
     let o = try_file(OPENING, &mut seen);
     let l = try_file(CHECK, &mut seen);
     let s = try_file(SEARCH, &mut seen);
     let j = try_join(SERIES, &mut seen) + try_join(PARALLEL, &mut seen);
-    let t = try_tallies(&mut seen) + try_removes(&mut seen);
-    let c = try_chances(&mut seen);
+    let t = try_new(&mut seen) + try_add(&mut seen) + try_remove(&mut seen) + try_score(&mut seen);
+    let c = try_chances(&mut seen) + try_reliability(&mut seen);
     show_all(&seen);
     w + o + l + s + j + t + c
 }

@@ -1,9 +1,10 @@
-// Tallies and reliability of eight searched rounds, against the rounds that removal testing finds
-// to hold and exact arithmetic on them.
+// Tallies, their scores and reliability of eight searched rounds, against the rounds that removal
+// testing finds to hold and exact arithmetic on them.
 use answer::Aged;
 use answer::Done;
 use answer::Rate;
 use answer::Rated;
+use answer::Scored;
 use test_exact::Quotient;
 use test_support::byte;
 use test_support::flag;
@@ -65,7 +66,19 @@ fn add_all(fronts: &[u8], words: &mut [u32]) -> u64
     n
 }
 
-// The word that a tally has at a place after eight adds: n1, n2, M, a cell, or what it held.
+// The sum of all cells that removal testing finds; past the class sizes they are 0.
+fn score_due(cells: &[u8]) -> u64 {
+    let mut s: u64 = 0;
+    let mut k: usize = 0;
+    while k < 4225 {
+        s += byte(cells, k);
+        k += 1;
+    }
+    s
+}
+
+// The word that a tally has at a place after eight adds: n1, n2, M, the score, a cell, or what it
+// held.
 fn due(n1: usize, n2: usize, cells: &[u8], i: usize) -> u64
     requires { ⌜ (n1 ≤ 64) × (n2 ≤ 64) ⌝ }
 {
@@ -78,8 +91,11 @@ fn due(n1: usize, n2: usize, cells: &[u8], i: usize) -> u64
     if i == 2 {
         return 8;
     }
-    let l1 = (i - 3) / (n2 + 1);
-    let l2 = (i - 3) % (n2 + 1);
+    if i == 3 {
+        return score_due(cells);
+    }
+    let l1 = (i - 4) / (n2 + 1);
+    let l2 = (i - 4) % (n2 + 1);
     if l1 > n1 {
         return old(i);
     }
@@ -103,7 +119,17 @@ fn differ(n1: usize, n2: usize, cells: &[u8], words: &[u32]) -> u64
     n
 }
 
-// A new tally, and an add for each round.
+// 1 where the score is not the sum that removal testing finds.
+fn score_wrong(s: Scored, due: u64) -> u64
+    ensures { λ r. ⌜ r ≤ 1 ⌝ }
+{
+    match s {
+        Scored::Score(n) => flag(n as u64 != due),
+        Scored::Refused(_) => 1,
+    }
+}
+
+// A new tally, an add for each round, and the score.
 fn tally_of(n1: usize, n2: usize, cells: &[u8], fronts: &[u8], words: &mut [u32]) -> u64
     requires { ⌜ (n1 ≤ 64) × (n2 ≤ 64) ⌝ }
     ensures { λ r. ⌜ r ≤ 5000 ⌝ }
@@ -111,7 +137,8 @@ fn tally_of(n1: usize, n2: usize, cells: &[u8], fronts: &[u8], words: &mut [u32]
     fill(words);
     let first = refused(tally::new(n1 as u32, n2 as u32, words));
     let adds = add_all(fronts, words);
-    first + adds + differ(n1, n2, cells, words)
+    let score = score_wrong(tally::score(words), score_due(cells));
+    first + adds + score + differ(n1, n2, cells, words)
 }
 
 // ---- reliability

@@ -9,8 +9,13 @@ use test_support::record_holds;
 use test_support::word;
 ghost use Prim.Native.Nat.{_+_, _*_, _≤_, _<_};
 
-// The words before a tally's cells.
-pub const HEAD: usize = 3;
+// The words before a tally's cells, and the place of the score.
+pub const HEAD: usize = 4;
+
+pub const SCORE: usize = 3;
+
+// 2^32: every word is below it.
+const LIMIT: u64 = 4294967296;
 
 // A place that no slice has.
 pub const PAST: usize = 1000000;
@@ -124,10 +129,11 @@ fn fair(t: &[u32], k: usize, w: usize, n: usize) -> bool
     let x = word(t, HEAD + k);
     (x <= word(t, 2))
         & ((n <= k + w) | (x <= word(t, HEAD + k + w)))
-        & ((k % w == w - 1) | (x <= word(t, 4 + k)))
+        & ((k % w == w - 1) | (x <= word(t, HEAD + k + 1)))
 }
 
-fn is_sound(t: &[u32]) -> bool {
+// Document 01's sound: sizes, M, and the cells one by one.
+fn is_fair(t: &[u32]) -> bool {
     let n1 = size(word(t, 0));
     let n2 = size(word(t, 1));
     let mut good = (word(t, 0) <= 64) & (word(t, 1) <= 64) & (word(t, 2) <= 100000);
@@ -138,6 +144,89 @@ fn is_sound(t: &[u32]) -> bool {
         k += 1;
     }
     good
+}
+
+// The sum of all cells, whole.
+pub fn cell_sum(t: &[u32]) -> u64 {
+    let n = cells(size(word(t, 0)), size(word(t, 1)));
+    let mut s: u64 = 0;
+    let mut k: usize = 0;
+    while k < n {
+        s += word(t, HEAD + k);
+        k += 1;
+    }
+    s
+}
+
+fn is_sound(t: &[u32]) -> bool {
+    is_fair(t) & (cell_sum(t) == word(t, SCORE))
+}
+
+// Of an unsound tally: 1 where the score alone is wrong, 2 where the score is right, 3 where it is
+// the cells' sum only modulo 2^32, 0 for all else.
+pub fn fault(t: &[u32]) -> u64
+    ensures { λ r. ⌜ r ≤ 3 ⌝ }
+{
+    if (word(t, 0) > 64) | (word(t, 1) > 64) {
+        return 0;
+    }
+    let s = cell_sum(t);
+    if s == word(t, SCORE) {
+        return 2;
+    }
+    if is_fair(t) {
+        return 1;
+    }
+    if s % LIMIT == word(t, SCORE) { 3 } else { 0 }
+}
+
+// 2^31 more, modulo 2^32, in each of the last two cells: where there are two, the cells' sum is
+// another, and the same modulo 2^32. Twice is nothing.
+pub fn wrap(t: &mut [u32]) {
+    let n = cells(size(word(t, 0)), size(word(t, 1)));
+    if n < 2 {
+        return;
+    }
+    let last = HEAD + n - 1;
+    let x = word(t, last - 1);
+    let y = word(t, last);
+    put(t, last - 1, x + LIMIT / 2);
+    put(t, last, y + LIMIT / 2);
+}
+
+// What a damaged word becomes: a size near 64 or any, M small or near 100,000, a cell.
+fn damaged(seed: u64, kind: u64) -> u64 {
+    let x = pick(seed, 32, 5);
+    if kind == 2 {
+        return x + 99998 * flag(0 < x);
+    }
+    if kind > 2 {
+        return x;
+    }
+    if x < 3 { 63 + x } else { pick(seed, 33, 70) }
+}
+
+// A word changed: a size, M, the score by one, two cells to wrap the sum, or one of n cells. Most often
+// the score is told anew for another word, so that nothing else is wrong.
+pub fn damage(seed: u64, n: u64, t: &mut [u32]) {
+    let kind = pick(seed, 30, 11);
+    let score = word(t, SCORE);
+    if kind == 3 {
+        return put(t, SCORE, score + UP);
+    }
+    if kind == 4 {
+        return put(t, SCORE, score + DOWN);
+    }
+    if kind == 5 {
+        return wrap(t);
+    }
+    let at = HEAD + pick(seed, 31, n) as usize % 4225;
+    put(
+        t,
+        if kind < 3 { kind as usize } else { at },
+        damaged(seed, kind),
+    );
+    put_score(t, pick(seed, 34, 5) != 0);
 }
 
 // 21, 22 or 0.
@@ -174,7 +263,7 @@ pub fn add_number(r: &[u8], t: &[u32]) -> u64 {
     if word(t, 2) == 100000 { 24 } else { 0 }
 }
 
-// An add or a remove, cell by cell, where it is due.
+// An add or a remove, cell by cell and the score anew from the cells, where it is due.
 pub fn change(r: &[u8], t: &mut [u32], due: bool, step: u64)
     requires { ⌜ step < 4294967296 ⌝ }
 {
@@ -199,6 +288,13 @@ pub fn change(r: &[u8], t: &mut [u32], due: bool, step: u64)
         );
         k += 1;
     }
+    put_score(t, due);
+}
+
+// Puts the sum of all cells in the score's word, where it is due.
+pub fn put_score(t: &mut [u32], due: bool) {
+    let s = cell_sum(t);
+    put(t, if due { SCORE } else { PAST }, s);
 }
 
 fn least(x: usize, y: usize) -> usize
@@ -231,6 +327,7 @@ pub fn causes(r: &[u8], t: &[u32]) -> u64
     let m = flag(word(&left, 2) == DOWN);
     put(&mut left, if m == 1 { 2 } else { PAST }, 0);
     let c = settle(&mut left);
+    put_score(&mut left, true);
     m + 2 * c + 4 * flag(!is_sound(&left))
 }
 

@@ -1,5 +1,5 @@
 // New, add, weights and reliability on generated tallies, good and damaged, against a plain reading
-// of document 01, counted; and ageing, age by age.
+// of documents 01 and 02, counted; and ageing, age by age.
 
 use answer::Aged;
 use answer::Done;
@@ -11,8 +11,10 @@ use test_support::pick;
 use test_support::poke;
 use test_support::put;
 use test_support::word;
+use test_tallies::DOWN;
 use test_tallies::HEAD;
 use test_tallies::PAST;
+use test_tallies::SCORE;
 use test_tallies::Sizes;
 use test_tallies::UP;
 use test_tallies::copy;
@@ -21,7 +23,18 @@ use test_tallies::record_of;
 ghost use Prim.Native.Nat.{_≤_, _<_};
 ghost use lib.ListN.{length};
 
-// ---- counts: 28 for each call; at k the answers of number k, at 26 the wrong ones
+// ---- counts: for each call at k the answers of number k, at 26 the wrong ones, and from FAULTS on
+// the answers 22 by fault
+const NEW: u64 = 0;
+
+const ADD: u64 = 32;
+
+const RELIABILITY: u64 = 64;
+
+const WEIGHTS: u64 = 96;
+
+const FAULTS: u64 = 28;
+
 fn tick(counts: &mut [u64], at: u64) {
     let k = at as usize;
     if k < counts.len() {
@@ -43,23 +56,50 @@ fn judge(counts: &mut [u64], base: u64, got: u64, right: bool)
     tick(counts, base + verdict(right));
 }
 
-fn shown(counts: &[u64], k: usize) -> u64 {
+// Counts the fault of a tally that was answered by 22.
+fn blame(counts: &mut [u64], base: u64, got: u64, words: &[u32])
+    requires { ⌜ base ≤ 1000 ⌝ }
+{
+    if got != 22 {
+        return;
+    }
+    tick(counts, base + FAULTS + test_tallies::fault(words));
+}
+
+fn shown(counts: &[u64], at: u64) -> u64 {
+    let k = at as usize;
     if k < counts.len() { counts[k] } else { 0 }
 }
 
-fn label(k: usize) {
+fn label(k: u64) {
     if k == 0 {
         io::write_all(STDOUT_FILENO, b"  good");
         return;
     }
     io::write_all(STDOUT_FILENO, b"  refused ");
-    io::print_decimal(STDOUT_FILENO, k as u64);
+    io::print_decimal(STDOUT_FILENO, k);
 }
 
-fn show(counts: &[u64], base: usize)
+fn show_faults(counts: &[u64], base: u64)
     requires { ⌜ base ≤ 1000 ⌝ }
 {
-    let mut k: usize = 0;
+    if shown(counts, base + 22) == 0 {
+        return;
+    }
+    let at = base + FAULTS;
+    line(b"  22 by the score alone ", shown(counts, at + 1));
+    line(b"  22 with the score right ", shown(counts, at + 2));
+    line(
+        b"  22 with the score right only modulo 2^32 ",
+        shown(counts, at + 3),
+    );
+}
+
+fn show(title: &[u8], counts: &[u64], base: u64)
+    requires { ⌜ base ≤ 1000 ⌝ }
+{
+    io::write_all(STDOUT_FILENO, title);
+    let mut k: u64 = 0;
     while k < 26 {
         let n = shown(counts, base + k);
         if n != 0 {
@@ -68,6 +108,7 @@ fn show(counts: &[u64], base: usize)
         }
         k += 1;
     }
+    show_faults(counts, base);
     line(b"  wrong ", shown(counts, base + 26));
 }
 
@@ -86,9 +127,9 @@ fn fresh(t: &mut [u32], n1: u64, n2: u64, n: usize, due: bool)
 {
     put(t, if due { 0 } else { PAST }, n1);
     put(t, if due { 1 } else { PAST }, n2);
-    let mut i: usize = 0;
-    while i <= n {
-        put(t, if due { 2 + i } else { PAST }, 0);
+    let mut i: usize = 2;
+    while i < HEAD + n {
+        put(t, if due { i } else { PAST }, 0);
         i += 1;
     }
 }
@@ -124,7 +165,7 @@ fn try_new(n1: u64, n2: u64, words: &mut [u32], counts: &mut [u64])
     fresh(&mut want, n1, n2, n, due == 0);
     let got = number(tally::new(n1 as u32, n2 as u32, words));
     let alike = test_tallies::begins(&want, words);
-    judge(counts, 0, got, (got == due) & alike);
+    judge(counts, NEW, got, (got == due) & alike);
 }
 
 // ---- add
@@ -137,7 +178,8 @@ fn try_add(record: &[u8], words: &mut [u32], counts: &mut [u64])
     test_tallies::change(record, &mut want, due == 0, UP);
     let got = number(tally::add(record, words));
     let alike = test_tallies::begins(&want, words);
-    judge(counts, 28, got, (got == due) & alike);
+    judge(counts, ADD, got, (got == due) & alike);
+    blame(counts, ADD, got, words);
 }
 
 // The sizes of a record: those of the tally, but for two times in ten.
@@ -247,12 +289,17 @@ fn rated(r: Rated, t: &[u32], p1: u64, p2: u64, due: u64) -> bool {
     }
 }
 
-fn try_rate(seed: u64, words: &[u32], counts: &mut [u64]) {
-    let p1 = chance(seed, 11);
-    let p2 = chance(seed, 12);
+fn rate_at(p1: u64, p2: u64, words: &[u32], counts: &mut [u64])
+    requires { ⌜ (p1 ≤ 1000001) × (p2 ≤ 1000001) ⌝ }
+{
     let due = rate_number(words, p1, p2);
     let r = reliability::reliability(words, p1 as u32, p2 as u32);
-    judge(counts, 56, due, rated(r, words, p1, p2, due));
+    judge(counts, RELIABILITY, due, rated(r, words, p1, p2, due));
+    blame(counts, RELIABILITY, due, words);
+}
+
+fn try_rate(seed: u64, words: &[u32], counts: &mut [u64]) {
+    rate_at(chance(seed, 11), chance(seed, 12), words, counts)
 }
 
 // ---- weights
@@ -293,7 +340,7 @@ fn weigh(n: u64, p: u64, out: &mut [u32], counts: &mut [u64])
     expect_weights(p, n, &mut want, due == 0);
     let got = number(weights::weights(n as u32, p as u32, out));
     let alike = test_tallies::begins(&want, out);
-    judge(counts, 84, got, (got == due) & alike);
+    judge(counts, WEIGHTS, got, (got == due) & alike);
 }
 
 fn try_weights(seed: u64, counts: &mut [u64]) {
@@ -347,27 +394,6 @@ fn size_of(seed: u64, i: u64) -> Sizes
     }
 }
 
-// A word changed: n1 near 64, any n2, M near 100,000, or a cell.
-fn damage(seed: u64, words: &mut [u32]) {
-    let kind = pick(seed, 30, 6);
-    let far = 3 + pick(seed, 31, 4230);
-    let many = 99998 + pick(seed, 32, 4);
-    let size = if kind == 0 {
-        63 + pick(seed, 33, 4)
-    } else {
-        pick(seed, 33, 70)
-    };
-    put(
-        words,
-        if kind < 3 {
-            kind as usize
-        } else {
-            far as usize
-        },
-        if kind == 2 { many } else { size },
-    )
-}
-
 fn adds(seed: u64, s: Sizes, words: &mut [u32], counts: &mut [u64])
     requires { ⌜ (s .n1 ≤ 64) × (s .n2 ≤ 64) × (length (now words) ≤ 4240) ⌝ }
 {
@@ -399,11 +425,11 @@ fn room(seed: u64, s: Sizes) -> usize
 {
     let kind = pick(seed, 41, 10);
     if kind == 0 {
-        return 2;
+        return HEAD - 1;
     }
     let n = cells_of(s.n1, s.n2);
     if kind == 1 {
-        return 2 + n;
+        return HEAD - 1 + n;
     }
     HEAD + n + pick(seed, 42, 4) as usize
 }
@@ -417,15 +443,51 @@ fn start(seed: u64, s: Sizes, words: &mut [u32], counts: &mut [u64])
     try_rate(seed + 2, words, counts);
 }
 
-// Adds and reliability, and both again after a word is damaged.
+// An add, and reliability.
+fn try_both(seed: u64, s: Sizes, words: &mut [u32], counts: &mut [u64])
+    requires { ⌜ (s .n1 ≤ 64) × (s .n2 ≤ 64) × (length (now words) ≤ 4240) × (seed < 2147483648) ⌝ }
+{
+    one_add(seed, s, words, counts);
+    try_rate(seed + 1, words, counts);
+}
+
+// The same with a score that is off by one; afterwards the words are as they were.
+fn off_score(seed: u64, s: Sizes, step: u64, words: &mut [u32], counts: &mut [u64])
+    requires { ⌜ (s .n1 ≤ 64) × (s .n2 ≤ 64) × (length (now words) ≤ 4240) × (seed < 2147483648) × (step < 4294967296) ⌝ }
+{
+    let score = word(words, SCORE);
+    put(words, SCORE, score + step);
+    try_both(seed, s, words, counts);
+    put(words, SCORE, score);
+}
+
+// The same with cells whose sum is the score only modulo 2^32.
+fn wrapped(seed: u64, s: Sizes, words: &mut [u32], counts: &mut [u64])
+    requires { ⌜ (s .n1 ≤ 64) × (s .n2 ≤ 64) × (length (now words) ≤ 4240) × (seed < 2147483648) ⌝ }
+{
+    test_tallies::wrap(words);
+    try_both(seed, s, words, counts);
+    test_tallies::wrap(words);
+}
+
+fn try_scores(seed: u64, s: Sizes, words: &mut [u32], counts: &mut [u64])
+    requires { ⌜ (s .n1 ≤ 64) × (s .n2 ≤ 64) × (length (now words) ≤ 4240) × (seed < 2147483648) ⌝ }
+{
+    off_score(seed, s, UP, words, counts);
+    off_score(seed, s, DOWN, words, counts);
+    wrapped(seed, s, words, counts);
+}
+
+// Adds and reliability, and both again with a score that is not the cells' sum, and after a word is
+// damaged.
 fn go_on(seed: u64, s: Sizes, words: &mut [u32], counts: &mut [u64])
     requires { ⌜ (s .n1 ≤ 64) × (s .n2 ≤ 64) × (length (now words) ≤ 4240) × (seed < 2147483648) ⌝ }
 {
     adds(seed, s, words, counts);
     try_rate(seed, words, counts);
-    damage(seed, words);
-    one_add(seed, s, words, counts);
-    try_rate(seed + 1, words, counts);
+    try_scores(seed, s, words, counts);
+    test_tallies::damage(seed, cells_of(s.n1, s.n2) as u64, words);
+    try_both(seed, s, words, counts);
 }
 
 fn in_slice(seed: u64, s: Sizes, words: &mut [u32], counts: &mut [u64])
@@ -453,17 +515,30 @@ fn tallies(counts: &mut [u64]) {
     }
 }
 
+fn try_head(words: &mut [u32], counts: &mut [u64])
+    requires { ⌜ length (now words) ≤ 4240 ⌝ }
+{
+    let record = [0u8; 3];
+    try_add(&record, words, counts);
+    rate_at(0, 0, words, counts);
+}
+
+// n1 above 64, in three words and in four.
+fn heads(counts: &mut [u64]) {
+    let mut three = [65u32, 0, 0];
+    let mut four = [65u32, 0, 0, 0];
+    try_head(&mut three, counts);
+    try_head(&mut four, counts);
+}
+
 fn main() {
-    let mut counts = [0u64; 112];
+    let mut counts = [0u64; 128];
     tallies(&mut counts);
-    io::write_all(STDOUT_FILENO, b"new\n");
-    show(&counts, 0);
-    io::write_all(STDOUT_FILENO, b"add\n");
-    show(&counts, 28);
-    io::write_all(STDOUT_FILENO, b"reliability\n");
-    show(&counts, 56);
-    io::write_all(STDOUT_FILENO, b"weights\n");
-    show(&counts, 84);
+    heads(&mut counts);
+    show(b"new\n", &counts, NEW);
+    show(b"add\n", &counts, ADD);
+    show(b"reliability\n", &counts, RELIABILITY);
+    show(b"weights\n", &counts, WEIGHTS);
     io::write_all(STDOUT_FILENO, b"ageing\n");
     show_ages();
 }

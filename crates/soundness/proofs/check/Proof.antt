@@ -1,4 +1,4 @@
--- `tally::check` looks at nothing before it is known to be there.
+-- `soundness::check` looks at nothing before it is known to be there.
 use mathlib.Core.Path.{_≡_, sym, _∙_}
 use mathlib.Core.Bool.{_||_, false}
 use Prim.Native.Nat.{_+_, _*_, _≤_}
@@ -81,26 +81,29 @@ part-is-fair-end c = search needs
 shared-slice-read-is-fair : tie.Need-shared-slice-read-is-fair
 shared-slice-read-is-fair c = search needs
 
+shared-slice-read-is-fair-2 : tie.Need-shared-slice-read-is-fair-2
+shared-slice-read-is-fair-2 c = search needs
+
 is-fair-requires : tie.Need-is-fair-requires
 is-fair-requires c κs =
-    let t = c .before .before .before .before .before .before .before .before .before .before .before .before .args .tally .now in
-    let e = both-are (c .before .before .before .before .before .before) in
-    let f = few (c .before .before .before .before .before) in
-    rw (tail-part t headWords, e .0, e .1) (f .0, f .1, omega (arith, room (c .before .before .before .before), length-drop headWords t))
+    let t = c .before .before .before .before .before .before .before .before .before .before .before .before .before .args .tally .now in
+    let e = both-are (c .before .before .before .before .before .before .before) in
+    let f = few (c .before .before .before .before .before .before) in
+    rw (tail-part t headWords, e .0, e .1) (f .0, f .1, omega (arith, room (c .before .before .before .before .before), length-drop headWords t))
 
 returns-5 : tie.Need-returns-5
 returns-5 c =
-    let t = c .before .before .before .before .before .before .before .before .before .before .before .before .before .before .args .tally .now in
-    let e = both-are (c .before .before .before .before .before .before .before .before) in
+    let t = c .before .before .before .before .before .before .before .before .before .before .before .before .before .before .before .args .tally .now in
+    let e = both-are (c .before .before .before .before .before .before .before .before .before) in
     let k = rw (tail-part t headWords, e .0, e .1) at (c .before .is-fair .ensures) in
-    sym (unfair t (c .before .before .before .before .before .before .before .before .before .before .before .before .if1 .left) (small (c .before .before .before .before .before .before .before)) (room (c .before .before .before .before .before .before)) (c .before .before .before .before .if4 .left) (sym k ∙ not-true _ (c .if5 .taken)))
+    sym (unfair t (c .before .before .before .before .before .before .before .before .before .before .before .before .before .if1 .left) (small (c .before .before .before .before .before .before .before .before)) (room (c .before .before .before .before .before .before .before)) (c .before .before .before .before .before .if4 .left) (sym k ∙ not-true _ (c .if5 .taken)))
 
 returns-6 : tie.Need-returns-6
 returns-6 c =
-    let t = c .before .before .before .before .before .before .before .before .before .before .before .before .before .before .args .tally .now in
-    let e = both-are (c .before .before .before .before .before .before .before .before) in
+    let t = c .before .before .before .before .before .before .before .before .before .before .before .before .before .before .before .args .tally .now in
+    let e = both-are (c .before .before .before .before .before .before .before .before .before) in
     let k = rw (tail-part t headWords, e .0, e .1) at (c .before .is-fair .ensures) in
-    sym (good t (c .before .before .before .before .before .before .before .before .before .before .before .before .if1 .left) (small (c .before .before .before .before .before .before .before)) (room (c .before .before .before .before .before .before)) (c .before .before .before .before .if4 .left) (sym k ∙ not-false _ (c .if5 .left)))
+    sym (good t (c .before .before .before .before .before .before .before .before .before .before .before .before .before .if1 .left) (small (c .before .before .before .before .before .before .before .before)) (room (c .before .before .before .before .before .before .before)) (c .before .before .before .before .before .if4 .left) (sym k ∙ not-false _ (c .if5 .left)))
 
 pub check-spec : {M : Type 1} → statement M
 check-spec =
@@ -123,6 +126,7 @@ check-spec =
     part-is-fair-start
     part-is-fair-end
     shared-slice-read-is-fair
+    shared-slice-read-is-fair-2
     is-fair-requires
     returns-5
     returns-6)

@@ -1,4 +1,4 @@
--- `tally::rows_rise` goes from row to row.
+-- `soundness::rows_rise` goes from row to row.
 use mathlib.Core.Path.{_≡_, ap, _∙_}
 use mathlib.Core.Bool.{_&&_}
 use Prim.Native.Nat.{_+_, _-_, _*_, _≤_}
@@ -20,8 +20,8 @@ abbrev μ-loop : tie.MeasureT-loop
 loop-holds : tie.Need-loop-holds Inv-loop μ-loop
 loop-holds c = search needs
 
-rises-requires : tie.Need-rises-requires Inv-loop μ-loop
-rises-requires c κs =
+pass-over-requires : tie.Need-pass-over-requires Inv-loop μ-loop
+pass-over-requires c κs =
     let s = c .before .before .before in
     let l = c .before .loop in
     let h : l .l1 + 1 ≤ s .args .n1 + 1 = omega arith in
@@ -32,8 +32,8 @@ add-at c = search needs
 
 add-at-2 : tie.Need-add-at-2 Inv-loop μ-loop
 add-at-2 c =
-    let s = c .before .before .before .before in
-    let l = c .before .before .loop in
+    let s = c .before .before .before .before .before in
+    let l = c .before .before .before .loop in
     let h : l .l1 ≤ maxClass = omega (arith, s .pre .0) in
     omega (arith, l .inv .1, s .pre .1, mul-le-mul-right (s .args .n2 + 1) h)
 
@@ -45,9 +45,9 @@ loop-less c = search needs
 
 loop-again : tie.Need-loop-again Inv-loop μ-loop
 loop-again c =
-    let a = c .before .before .before .before .args in
-    let l = c .before .before .loop in
-    (omega arith, omega (arith, l .inv .1), ap (λ b. _&&_ (l .all) b) (c .rises .ensures ∙ ap (λ n. risesBy (a .cells .now) n 1 (a .n2)) (l .inv .1)) ∙ every-next (λ k. risesBy (a .cells .now) (k * (a .n2 + 1)) 1 (a .n2)) (l .l1) (l .inv .2))
+    let a = c .before .before .before .before .before .args in
+    let l = c .before .before .before .loop in
+    (omega arith, omega (arith, l .inv .1), ap (λ b. _&&_ (l .all) b) (c .before .pass-over .ensures .0 ∙ ap (λ n. risesBy (a .cells .now) n 1 (a .n2)) (l .inv .1)) ∙ every-next (λ k. risesBy (a .cells .now) (k * (a .n2 + 1)) 1 (a .n2)) (l .l1) (l .inv .2))
 
 returns : tie.Need-returns Inv-loop μ-loop
 returns c =
@@ -63,7 +63,7 @@ rows-rise-spec =
     Inv-loop
     μ-loop
     loop-holds
-    rises-requires
+    pass-over-requires
     add-at
     add-at-2
     add-l1

@@ -90,6 +90,9 @@ loop-less c = search needs
 loop-again : tie.Need-loop-again Inv-loop μ-loop
 loop-again c = search needs
 
+put-score-requires : tie.Need-put-score-requires Inv-loop μ-loop
+put-score-requires c κs = search needs
+
 same-length : tie.Need-same-length Inv-loop μ-loop
 same-length c = search needs
 
@@ -128,5 +131,6 @@ change-spec =
     add-k
     loop-less
     loop-again
+    put-score-requires
     same-length
     returns)

@@ -15,8 +15,8 @@ abbrev μ-loop : tie.MeasureT-loop
 loop-holds : tie.Need-loop-holds Inv-loop μ-loop
 loop-holds c = search needs
 
-try-list-requires : tie.Need-try-list-requires Inv-loop μ-loop
-try-list-requires c κs = search needs
+try-case-requires : tie.Need-try-case-requires Inv-loop μ-loop
+try-case-requires c κs = search needs
 
 add-i : tie.Need-add-i Inv-loop μ-loop
 add-i c = search needs
@@ -40,7 +40,7 @@ lists-spec =
     Inv-loop
     μ-loop
     loop-holds
-    try-list-requires
+    try-case-requires
     add-i
     loop-less
     loop-again

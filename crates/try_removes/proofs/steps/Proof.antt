@@ -7,10 +7,10 @@ use Rattle.try_removes.proofs.steps.Statement.{statement}
 use Rattle.try_removes.proofs.steps.Tie as tie
 
 abbrev Inv-loop : tie.InvT-loop
-Inv-loop seed legal records held₀ words₀ counts₀ j₀ held words counts j = (j ≤ 24) × (length held ≡ length held₀) × (length words ≡ length words₀) × (length counts ≡ length counts₀)
+Inv-loop list records held₀ words₀ counts₀ j₀ held words counts j = (j ≤ 24) × (length held ≡ length held₀) × (length words ≡ length words₀) × (length counts ≡ length counts₀)
 
 abbrev μ-loop : tie.MeasureT-loop
-μ-loop seed legal records held₀ words₀ counts₀ j₀ held words counts j = 24 - j
+μ-loop list records held₀ words₀ counts₀ j₀ held words counts j = 24 - j
 
 loop-holds : tie.Need-loop-holds Inv-loop μ-loop
 loop-holds c = search needs

@@ -7,13 +7,19 @@ use Rattle.try_removes.proofs.store.Statement.{statement}
 use Rattle.try_removes.proofs.store.Tie as tie
 
 abbrev Inv-loop : tie.InvT-loop
-Inv-loop from to₀ at i₀ to i = (i ≤ 64) × (length to ≡ length to₀)
+Inv-loop from skip n to₀ at i₀ to i = (i ≤ 64) × (length to ≡ length to₀)
 
 abbrev μ-loop : tie.MeasureT-loop
-μ-loop from to₀ at i₀ to i = 64 - i
+μ-loop from skip n to₀ at i₀ to i = 64 - i
 
 loop-holds : tie.Need-loop-holds Inv-loop μ-loop
 loop-holds c = search needs
+
+mul-place : tie.Need-mul-place Inv-loop μ-loop
+mul-place c = search needs
+
+add-place : tie.Need-add-place Inv-loop μ-loop
+add-place c = search needs
 
 add-poke : tie.Need-add-poke Inv-loop μ-loop
 add-poke c = search needs
@@ -33,6 +39,12 @@ loop-less c = search needs
 loop-again : tie.Need-loop-again Inv-loop μ-loop
 loop-again c = search needs
 
+add-poke-2 : tie.Need-add-poke-2 Inv-loop μ-loop
+add-poke-2 c = search needs
+
+poke-requires-2 : tie.Need-poke-requires-2 Inv-loop μ-loop
+poke-requires-2 c κs = search needs
+
 same-length : tie.Need-same-length Inv-loop μ-loop
 same-length c = search needs
 
@@ -46,11 +58,15 @@ store-spec =
     Inv-loop
     μ-loop
     loop-holds
+    mul-place
+    add-place
     add-poke
     byte-requires
     poke-requires
     add-i
     loop-less
     loop-again
+    add-poke-2
+    poke-requires-2
     same-length
     returns)

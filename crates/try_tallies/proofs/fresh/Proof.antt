@@ -1,4 +1,4 @@
--- The loop of `fresh` goes up to n.
+-- The loop of `fresh` goes over M, the score and the cells.
 use mathlib.Core.Path.{_≡_}
 use Prim.Native.Nat.{_+_, _-_, _≤_}
 use lib.ListN.{length}
@@ -7,10 +7,10 @@ use Rattle.try_tallies.proofs.fresh.Statement.{statement}
 use Rattle.try_tallies.proofs.fresh.Tie as tie
 
 abbrev Inv-loop : tie.InvT-loop
-Inv-loop t₀ n1 n2 n due i₀ t i = (i ≤ n + 1) × (length t ≡ length t₀)
+Inv-loop t₀ n1 n2 n due i₀ t i = (i ≤ 4 + n) × (length t ≡ length t₀)
 
 abbrev μ-loop : tie.MeasureT-loop
-μ-loop t₀ n1 n2 n due i₀ t i = n + 1 - i
+μ-loop t₀ n1 n2 n due i₀ t i = 4 + n - i
 
 put-requires : tie.Need-put-requires Inv-loop μ-loop
 put-requires c κs = search needs
@@ -21,8 +21,8 @@ put-requires-2 c κs = search needs
 loop-holds : tie.Need-loop-holds Inv-loop μ-loop
 loop-holds c = search needs
 
-add-put : tie.Need-add-put Inv-loop μ-loop
-add-put c = search needs
+add-loop : tie.Need-add-loop Inv-loop μ-loop
+add-loop c = search needs
 
 put-requires-3 : tie.Need-put-requires-3 Inv-loop μ-loop
 put-requires-3 c κs = search needs
@@ -51,7 +51,7 @@ fresh-spec =
     put-requires
     put-requires-2
     loop-holds
-    add-put
+    add-loop
     put-requires-3
     add-i
     loop-less

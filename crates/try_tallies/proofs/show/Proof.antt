@@ -5,10 +5,13 @@ use Rattle.try_tallies.proofs.show.Statement.{statement}
 use Rattle.try_tallies.proofs.show.Tie as tie
 
 abbrev Inv-loop : tie.InvT-loop
-Inv-loop counts base k₀ t5 t6 k = k ≤ 26
+Inv-loop title counts base k₀ t6 t7 k = k ≤ 26
 
 abbrev μ-loop : tie.MeasureT-loop
-μ-loop counts base k₀ t5 t6 k = 26 - k
+μ-loop title counts base k₀ t6 t7 k = 26 - k
+
+write-all-requires : tie.Need-write-all-requires Inv-loop μ-loop
+write-all-requires c κs = search needs
 
 loop-holds : tie.Need-loop-holds Inv-loop μ-loop
 loop-holds c = search needs
@@ -37,6 +40,9 @@ loop-less c = search needs
 loop-again : tie.Need-loop-again Inv-loop μ-loop
 loop-again c = search needs
 
+show-faults-requires : tie.Need-show-faults-requires Inv-loop μ-loop
+show-faults-requires c κs = search needs
+
 slice-aggregate-line-2 : tie.Need-slice-aggregate-line-2 Inv-loop μ-loop
 slice-aggregate-line-2 c = search needs
 
@@ -58,6 +64,7 @@ show-spec =
     (tie.spec
     Inv-loop
     μ-loop
+    write-all-requires
     loop-holds
     add-shown
     shown-requires
@@ -67,6 +74,7 @@ show-spec =
     add-k
     loop-less
     loop-again
+    show-faults-requires
     slice-aggregate-line-2
     add-shown-2
     shown-requires-2

@@ -1,16 +1,16 @@
--- The loop of `try_list` goes over the changes; none counts more than once.
+-- The loop of `try_from` goes over the changes; none counts more than once.
 use mathlib.Core.Path.{_≡_}
 use Prim.Native.Nat.{_-_, _≤_}
 use lib.ListN.{length}
 use borrow.Author.Needs.{needs}
-use Rattle.test_refusals.proofs.try_list.Statement.{statement}
-use Rattle.test_refusals.proofs.try_list.Tie as tie
+use Rattle.test_refusals.proofs.try_from.Statement.{statement}
+use Rattle.test_refusals.proofs.try_from.Tie as tie
 
 abbrev Inv-loop : tie.InvT-loop
-Inv-loop call list seen₀ n wrong₀ k₀ seen wrong k = (k ≤ n) × (n ≤ 400) × (wrong ≤ k) × (length seen ≡ length seen₀)
+Inv-loop call base list seen₀ n wrong₀ k₀ seen wrong k = (k ≤ n) × (n ≤ 400) × (wrong ≤ k) × (length seen ≡ length seen₀)
 
 abbrev μ-loop : tie.MeasureT-loop
-μ-loop call list seen₀ n wrong₀ k₀ seen wrong k = n - k
+μ-loop call base list seen₀ n wrong₀ k₀ seen wrong k = n - k
 
 fields-requires : tie.Need-fields-requires Inv-loop μ-loop
 fields-requires c κs = search needs
@@ -39,8 +39,8 @@ same-length c = search needs
 returns : tie.Need-returns Inv-loop μ-loop
 returns c = search needs
 
-pub try-list-spec : {M : Type 1} → statement M
-try-list-spec =
+pub try-from-spec : {M : Type 1} → statement M
+try-from-spec =
     tie.close
     (tie.spec
     Inv-loop

@@ -1,14 +1,14 @@
--- The loop of `is_sound` goes over the cells.
-use Prim.Native.Nat.{_-_, _≤_}
+-- The loop of `cell_sum` goes over the cells: each is a word, so that 64 bits hold the sum.
+use Prim.Native.Nat.{_-_, _*_, _≤_}
 use borrow.Author.Needs.{needs}
-use Rattle.test_tallies.proofs.is_sound.Statement.{statement}
-use Rattle.test_tallies.proofs.is_sound.Tie as tie
+use Rattle.test_tallies.proofs.cell_sum.Statement.{statement}
+use Rattle.test_tallies.proofs.cell_sum.Tie as tie
 
 abbrev Inv-loop : tie.InvT-loop
-Inv-loop t n1 n2 good₀ n k₀ good k = (k ≤ n) × (n ≤ 4225) × (n2 ≤ 64)
+Inv-loop t n s₀ k₀ s k = (k ≤ n) × (n ≤ 4225) × (s ≤ k * 4294967295)
 
 abbrev μ-loop : tie.MeasureT-loop
-μ-loop t n1 n2 good₀ n k₀ good k = n - k
+μ-loop t n s₀ k₀ s k = n - k
 
 word-requires : tie.Need-word-requires Inv-loop μ-loop
 word-requires c κs = search needs
@@ -22,26 +22,20 @@ word-requires-2 c κs = search needs
 size-requires-2 : tie.Need-size-requires-2 Inv-loop μ-loop
 size-requires-2 c κs = search needs
 
-word-requires-3 : tie.Need-word-requires-3 Inv-loop μ-loop
-word-requires-3 c κs = search needs
-
-word-requires-4 : tie.Need-word-requires-4 Inv-loop μ-loop
-word-requires-4 c κs = search needs
-
-word-requires-5 : tie.Need-word-requires-5 Inv-loop μ-loop
-word-requires-5 c κs = search needs
-
 cells-requires : tie.Need-cells-requires Inv-loop μ-loop
 cells-requires c κs = search needs
 
 loop-holds : tie.Need-loop-holds Inv-loop μ-loop
 loop-holds c = search needs
 
-add-fair : tie.Need-add-fair Inv-loop μ-loop
-add-fair c = search needs
+add-word : tie.Need-add-word Inv-loop μ-loop
+add-word c = search needs
 
-fair-requires : tie.Need-fair-requires Inv-loop μ-loop
-fair-requires c κs = search needs
+word-requires-3 : tie.Need-word-requires-3 Inv-loop μ-loop
+word-requires-3 c κs = search needs
+
+add-s : tie.Need-add-s Inv-loop μ-loop
+add-s c = search needs
 
 add-k : tie.Need-add-k Inv-loop μ-loop
 add-k c = search needs
@@ -55,8 +49,8 @@ loop-again c = search needs
 returns : tie.Need-returns Inv-loop μ-loop
 returns c = search needs
 
-pub is-sound-spec : {M : Type 1} → statement M
-is-sound-spec =
+pub cell-sum-spec : {M : Type 1} → statement M
+cell-sum-spec =
     tie.close
     (tie.spec
     Inv-loop
@@ -65,13 +59,11 @@ is-sound-spec =
     size-requires
     word-requires-2
     size-requires-2
-    word-requires-3
-    word-requires-4
-    word-requires-5
     cells-requires
     loop-holds
-    add-fair
-    fair-requires
+    add-word
+    word-requires-3
+    add-s
     add-k
     loop-less
     loop-again
