@@ -297,6 +297,18 @@ pub fn put_score(t: &mut [u32], due: bool) {
     put(t, if due { SCORE } else { PAST }, s);
 }
 
+// n1 = n2 = 64, and every cell is m, which is M: no sum is larger for this M.
+pub fn level(m: u64, t: &mut [u32]) {
+    let mut i: usize = 2;
+    while i < HEAD + 4225 {
+        put(t, i, m);
+        i += 1;
+    }
+    put(t, 0, 64);
+    put(t, 1, 64);
+    put_score(t, true);
+}
+
 fn least(x: usize, y: usize) -> usize
     ensures { λ r. ⌜ (r ≤ x) × (r ≤ y) ⌝ }
 {

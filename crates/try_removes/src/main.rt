@@ -538,6 +538,22 @@ fn lists(counts: &mut [u64]) {
     }
 }
 
+// A front that always holds, added and removed where every cell is m.
+fn try_level(m: u64, counts: &mut [u64]) {
+    let record = [64u8, 64, 1, 65, 65];
+    let mut words = [0u32; 4240];
+    test_tallies::level(m, &mut words);
+    try_move(&record, true, false, &mut words, counts);
+    try_move(&record, false, false, &mut words, counts);
+}
+
+// A sum above 16 bits, and the largest there are.
+fn levels(counts: &mut [u64]) {
+    try_level(16, counts);
+    try_level(99999, counts);
+    try_level(100000, counts);
+}
+
 fn show_moves(counts: &[u64]) {
     show(b"adds\n", b"  number ", counts, ADDS, 32);
     show(
@@ -621,6 +637,7 @@ fn show_rest(counts: &[u64]) {
 fn main() {
     let mut counts = [0u64; 111];
     lists(&mut counts);
+    levels(&mut counts);
     show_moves(&counts);
     show_causes(&counts);
     show_scores(&counts);

@@ -531,10 +531,27 @@ fn heads(counts: &mut [u64]) {
     try_head(&mut four, counts);
 }
 
+// A front that always holds, added where every cell is m.
+fn try_level(m: u64, counts: &mut [u64]) {
+    let record = [64u8, 64, 1, 65, 65];
+    let mut words = [0u32; 4240];
+    test_tallies::level(m, &mut words);
+    try_add(&record, &mut words, counts);
+    rate_at(999999, 1000000, &words, counts);
+}
+
+// A sum above 16 bits, and the largest there are.
+fn levels(counts: &mut [u64]) {
+    try_level(16, counts);
+    try_level(99999, counts);
+    try_level(100000, counts);
+}
+
 fn main() {
     let mut counts = [0u64; 128];
     tallies(&mut counts);
     heads(&mut counts);
+    levels(&mut counts);
     show(b"new\n", &counts, NEW);
     show(b"add\n", &counts, ADD);
     show(b"reliability\n", &counts, RELIABILITY);
