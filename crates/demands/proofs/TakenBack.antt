@@ -16,7 +16,8 @@ use Rattle.answer.specs.Outcome.{success, refused}
 use Rattle.record.specs.Record.{recordHolds}
 use Rattle.answer.proofs.Outcomes.{outcome-never}
 use Rattle.soundness.specs.Tally.{tallySize1, tallySize2, rounds, cell, Sound}
-use Rattle.tally.specs.Calls.{newOut, readyTests, held, addAnswer, addOut, removed, removable, removeTests, removeAnswer, removeOut}
+use Rattle.cells.specs.Cells.{held}
+use Rattle.tally.specs.Calls.{newOut, readyTests, addAnswer, addOut, removed, removable, removeTests, removeAnswer, removeOut}
 use Rattle.tally.proofs.Headings.{tally-same}
 use Rattle.tally.proofs.Readies.{Lowers, removable-means}
 use Rattle.tally.proofs.Runs.{add-back}

@@ -17,7 +17,7 @@ use Rattle.search.specs.Search.{searchAnswer, searchBytes}
 use Rattle.compose.specs.Compose.{seriesAnswer, seriesBytes, parallelAnswer, parallelBytes}
 use Rattle.writer.specs.Writer.{Given, givenTests, writeAnswer, studyBytes}
 use Rattle.convert.specs.Convert.{convertTests, convertBytes, convertAnswer}
-use Rattle.tally.specs.Cells.{tallyOf}
+use Rattle.tally.specs.Words.{tallyOf}
 use Rattle.tally.specs.Calls.{newAnswer, added, addAnswer, removed, removeAnswer, scoreAnswer}
 use Rattle.chance.specs.Chance.{weights}
 use Rattle.weights.specs.Calls.{ageingAnswer, weightsAnswer}

@@ -20,7 +20,7 @@ use Rattle.search.proofs.Claims.{claims}
 use Rattle.plan.specs.Calls.{Searched}
 use Rattle.plan.proofs.Told.{through-same, search-wrote, search-passed}
 use Rattle.soundness.specs.Tally.{tallySize1, tallySize2, rounds, words, cell, Sound}
-use Rattle.tally.specs.Cells.{tallyOf}
+use Rattle.tally.specs.Words.{tallyOf}
 use Rattle.tally.specs.Calls.{newAnswer, newOut, addAnswer, addOut, removeAnswer, removeOut}
 use Rattle.tally.specs.Steps.{holding, Tallies, Fits}
 use Rattle.tally.proofs.Scores.{Scores, new-scores, add-scores, remove-scores}

@@ -20,11 +20,13 @@ use Rattle.record.proofs.Records.{IsRecord, record-is}
 use Rattle.chance.specs.Chance.{Grows}
 use Rattle.chance.proofs.Bounds.{rising-all}
 use Rattle.soundness.specs.Tally.{headWords, tallySize1, tallySize2, rounds, width, cell, Sound}
-use Rattle.tally.specs.Calls.{held, removed, removable}
-use Rattle.tally.specs.Steps.{peak, readyAnswer, turnAll, startsLine, lineTest}
-use Rattle.tally.proofs.Peaks.{holds-peak, peak-next, peak-most, turn-within, turn-holds}
+use Rattle.cells.specs.Cells.{held}
+use Rattle.tally.specs.Calls.{removed, removable}
+use Rattle.cells.specs.Steps.{peak, turnAll, startsLine, lineTest}
+use Rattle.tally.specs.Steps.{readyAnswer}
+use Rattle.cells.proofs.Peaks.{holds-peak, peak-next, peak-most, turn-within, turn-holds}
 use Rattle.tally.proofs.Wholes.{tally-sound}
-use Rattle.tally.proofs.Changes.{held-true, held-false}
+use Rattle.cells.proofs.Rows.{held-true, held-false}
 use Rattle.tally.proofs.Readies.{ready-sound, ready-fits, Lowers, removable-means}
 
 both : {a b : Bool} → a ≡ true → b ≡ true → a && b ≡ true

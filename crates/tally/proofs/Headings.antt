@@ -7,8 +7,9 @@ use lib.ListN.{length, getD, set, take, drop, replicate, length-append, length-d
 use lib.Seq.{take-at, getD-append-add, getD-drop, drop-drop}
 use Rattle.soundness.specs.Tally.{headWords, roundsPlace, scorePlace, tallySize1, tallySize2, rounds, tallyScore, width, words, cell, cellSum}
 use Rattle.soundness.proofs.Totals.{total-same, total-none}
-use Rattle.tally.specs.Cells.{cellRows, heading, tallyOf}
-use Rattle.tally.proofs.Tables.{table-length, table-zero, table-at, table-same, table-take}
+use Rattle.cells.specs.Cells.{cellRows}
+use Rattle.tally.specs.Words.{heading, tallyOf}
+use Rattle.cells.proofs.Tables.{table-length, table-zero, table-at, table-same, table-take}
 
 -- the head with any score: that of the cells c is their `heading`
 abbrev pub headOf : ℕ → ℕ → ℕ → ℕ → List ℕ

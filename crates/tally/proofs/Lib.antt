@@ -1,8 +1,6 @@
-pub mod Tables
 pub mod Headings
 pub mod Wholes
 pub mod News
-pub mod Peaks
 pub mod Readies
 pub mod Changes
 pub mod Edges

@@ -18,8 +18,10 @@ use Rattle.record.specs.Record.{isRecord, recordSize1, recordSize2}
 use Rattle.soundness.specs.Tally.{headWords, tallySize1, tallySize2, rounds, words, cell, Sound, noRoom, isSound, stateTests, stateAnswer}
 use Rattle.soundness.proofs.Sounds.{sound-is}
 use Rattle.soundness.proofs.States.{state-sound, state-long, state-room}
-use Rattle.tally.specs.Calls.{fitsTally, readyTests, held, removed, lowerable, removable, removeTests, removeAnswer}
-use Rattle.tally.specs.Steps.{readyAnswer, Fitting, Fits}
+use Rattle.tally.specs.Calls.{fitsTally, readyTests, removed, lowerable, removable, removeTests, removeAnswer}
+use Rattle.cells.specs.Cells.{held}
+use Rattle.tally.specs.Steps.{readyAnswer, Fits}
+use Rattle.cells.specs.Steps.{Fitting}
 
 module _ (r t : List ℕ) where
   pub ready-none : isRecord r ≡ false → refused 12 ≡ readyAnswer r t

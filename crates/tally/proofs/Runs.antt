@@ -19,8 +19,9 @@ use Rattle.record.specs.Record.{listed, recordHolds}
 use Rattle.chance.specs.Chance.{Grows}
 use Rattle.soundness.specs.Tally.{tallySize1, tallySize2, rounds, words, cell, Sound}
 use Rattle.soundness.proofs.States.{neither}
-use Rattle.tally.specs.Cells.{tallyOf}
-use Rattle.tally.specs.Calls.{newTests, newAnswer, newOut, readyTests, held, addTests, addAnswer, addOut, added, removed, removable, removeAnswer, removeOut}
+use Rattle.tally.specs.Words.{tallyOf}
+use Rattle.tally.specs.Calls.{newTests, newAnswer, newOut, readyTests, addTests, addAnswer, addOut, added, removed, removable, removeAnswer, removeOut}
+use Rattle.cells.specs.Cells.{held}
 use Rattle.tally.specs.Steps.{readyAnswer, holding, Tallies, Fits}
 use Rattle.tally.proofs.Headings.{tally-length, tally-cell, tally-same}
 use Rattle.tally.proofs.Wholes.{grows-same, tally-sound}

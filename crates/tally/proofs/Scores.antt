@@ -7,8 +7,9 @@ use lib.ListN.{length, drop}
 use Rattle.answer.specs.Outcome.{Outcome, success, refused, filled}
 use Rattle.soundness.specs.Tally.{headWords, tallySize1, tallySize2, rounds, tallyScore, cell, cellSum}
 use Rattle.soundness.proofs.Totals.{total-same}
-use Rattle.tally.specs.Cells.{tallyOf}
-use Rattle.tally.specs.Calls.{newAnswer, newOut, held, addAnswer, addOut, removeAnswer, removeOut}
+use Rattle.tally.specs.Words.{tallyOf}
+use Rattle.tally.specs.Calls.{newAnswer, newOut, addAnswer, addOut, removeAnswer, removeOut}
+use Rattle.cells.specs.Cells.{held}
 use Rattle.tally.proofs.Headings.{tally-cell}
 
 -- a tally of these class sizes whose score is the sum of its cells

@@ -8,7 +8,7 @@ use Rattle.limits.specs.Limits.{maxRounds, maxClass}
 use Rattle.chance.specs.Chance.{Grows}
 use Rattle.soundness.specs.Tally.{cell, Sound}
 use Rattle.soundness.proofs.Totals.{total-same}
-use Rattle.tally.specs.Cells.{tallyOf}
+use Rattle.tally.specs.Words.{tallyOf}
 use Rattle.tally.proofs.Headings.{tally-cell}
 
 pub grows-same : {n1 n2 m : ℕ} {c d : ℕ → ℕ → ℕ} → ((l1 l2 : ℕ) → l1 ≤ n1 → l2 ≤ n2 → c l1 l2 ≡ d l1 l2) → Grows n1 n2 m c → Grows n1 n2 m d

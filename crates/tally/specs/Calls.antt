@@ -5,12 +5,12 @@ use Prim.Native.Nat.{ℕ, _+_, _-_}
 use lib.Dec.{eqb, leb, ltb}
 use lib.ListN.{length}
 use Rattle.limits.specs.Limits.{maxRounds, maxClass}
-use Rattle.laws.specs.Tests.{flag}
 use Rattle.laws.specs.Every.{every}
 use Rattle.answer.specs.Outcome.{Outcome, outcome, filled}
-use Rattle.record.specs.Record.{isRecord, recordHolds, recordSize1, recordSize2}
+use Rattle.record.specs.Record.{isRecord, recordSize1, recordSize2}
 use Rattle.soundness.specs.Tally.{headWords, tallySize1, tallySize2, rounds, tallyScore, words, cell, noRoom, isSound}
-use Rattle.tally.specs.Cells.{tallyOf}
+use Rattle.cells.specs.Cells.{held}
+use Rattle.tally.specs.Words.{tallyOf}
 
 -- ---- NEW (6, 21)
 abbrev pub newTests : ℕ → ℕ → ℕ → List (ℕ × Bool)
@@ -29,10 +29,6 @@ fitsTally r t = eqb (recordSize1 r) (tallySize1 t) && eqb (recordSize2 r) (tally
 
 abbrev pub readyTests : List ℕ → List ℕ → List (ℕ × Bool)
 readyTests r t = (12, not (isRecord r)) ∷ (21, noRoom t) ∷ (22, not (isSound t)) ∷ (23, not (fitsTally r t)) ∷ []
-
--- 1 where the record holds with the last l1 and l2 working
-abbrev pub held : List ℕ → ℕ → ℕ → ℕ → ℕ → ℕ
-held r n1 n2 l1 l2 = flag (recordHolds r (n1 - l1) (n2 - l2))
 
 -- ---- ADD (12, 21, 22, 23, 24)
 abbrev pub addTests : List ℕ → List ℕ → List (ℕ × Bool)

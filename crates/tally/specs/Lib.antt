@@ -1,3 +1,3 @@
-pub mod Cells
+pub mod Words
 pub mod Calls
 pub mod Steps

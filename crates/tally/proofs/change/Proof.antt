@@ -9,7 +9,7 @@ use borrow.Author.Needs.{needs}
 use Rattle.laws.specs.Parts.{tail-part}
 use Rattle.record.specs.Record.{recordSize1, recordSize2}
 use Rattle.soundness.specs.Tally.{headWords, tallySize1, tallySize2, rounds, tallyScore}
-use Rattle.tally.specs.Steps.{CanChange, changedWord, heldCells, changedCells}
+use Rattle.cells.specs.Steps.{CanChange, changedWord, heldCells, changedCells}
 use Rattle.tally.proofs.Changes.{put-tail, change-long, change-cells, half, half-score, change-out}
 use Rattle.tally.proofs.change.Statement.{statement}
 use Rattle.tally.proofs.change.Tie as tie

@@ -1,4 +1,4 @@
--- `tally::change_rows` changes a row a turn.
+-- `cells::change_rows` changes a row a turn.
 use mathlib.Core.Path.{_≡_, ap, _∙_}
 use Prim.Native.Nat.{ℕ, _+_, _-_, _<_, max}
 use native.Mathlib.Omega.{arith}
@@ -6,11 +6,11 @@ use lib.ListN.{length, getD}
 use borrow.Author.Needs.{needs}
 use Rattle.record.specs.Record.{listed}
 use Rattle.soundness.specs.Tally.{width}
-use Rattle.tally.specs.Steps.{peakAt}
+use Rattle.cells.specs.Steps.{peakAt}
 use Rattle.limits.specs.Limits.{maxPosition}
-use Rattle.tally.proofs.Changes.{AtLine, RowsDone, heldRows, small, row-first, done-first, fits, room, later, row-next, done-next, done-last, count-first, count-small, count-next, count-last}
-use Rattle.tally.proofs.change_rows.Statement.{statement}
-use Rattle.tally.proofs.change_rows.Tie as tie
+use Rattle.cells.proofs.Rows.{AtLine, RowsDone, heldRows, small, row-first, done-first, fits, room, later, row-next, done-next, done-last, count-first, count-small, count-next, count-last}
+use Rattle.cells.proofs.change_rows.Statement.{statement}
+use Rattle.cells.proofs.change_rows.Tie as tie
 
 abbrev Inv-loop : tie.InvT-loop
 Inv-loop cells₀ «record» n1 n2 up down top w y₀ n₀ at₀ x₀ cells y n at x =

@@ -1,4 +1,4 @@
--- `tally::top_ready` looks at the last cell.
+-- `cells::top_ready` looks at the last cell.
 use mathlib.Core.Path.{_≡_, refl, ap₂}
 use mathlib.Core.Bool.{_||_}
 use Prim.Native.Nat.{_+_, _*_, _≤_, _<_}
@@ -9,9 +9,9 @@ use lib.ListN.{length, getD}
 use borrow.Author.Needs.{needs}
 use Rattle.soundness.specs.Tally.{width}
 use Rattle.limits.specs.Limits.{maxClass}
-use Rattle.tally.proofs.Changes.{small}
-use Rattle.tally.proofs.top_ready.Statement.{statement}
-use Rattle.tally.proofs.top_ready.Tie as tie
+use Rattle.cells.proofs.Rows.{small}
+use Rattle.cells.proofs.top_ready.Statement.{statement}
+use Rattle.cells.proofs.top_ready.Tie as tie
 
 -- where the last cell stands
 place : (c : tie.After-wide3) → let a = c .before .before .before .before .before .args in let i = c .before .before .wide .result * (c .before .wide2 .result + 1) + c .wide3 .result in

@@ -1,13 +1,13 @@
--- `tally::change_part` changes one cell after another.
+-- `cells::change_part` changes one cell after another.
 use mathlib.Core.Path.{_≡_, refl, ap, _∙_}
 use Prim.Native.Nat.{_+_, _-_, _≤_}
 use native.Mathlib.Omega.{arith}
 use lib.ListN.{length, getD, set, length-set}
 use borrow.Author.Needs.{needs}
-use Rattle.tally.specs.Steps.{changedWord, changedPart}
-use Rattle.tally.proofs.Tables.{part-none, part-value, part-next}
-use Rattle.tally.proofs.change_part.Statement.{statement}
-use Rattle.tally.proofs.change_part.Tie as tie
+use Rattle.cells.specs.Steps.{changedWord, changedPart}
+use Rattle.cells.proofs.Tables.{part-none, part-value, part-next}
+use Rattle.cells.proofs.change_part.Statement.{statement}
+use Rattle.cells.proofs.change_part.Tie as tie
 
 abbrev Inv-loop : tie.InvT-loop
 Inv-loop cells₀ from n up down i₀ cells i = (i ≤ n) × (cells ≡ changedPart up down cells₀ from i) × (length cells ≡ length cells₀)

@@ -1,6 +1,6 @@
--- `tally::turned` exchanges the positions where it is asked to.
-use Rattle.tally.proofs.turned.Statement.{statement}
-use Rattle.tally.proofs.turned.Tie as tie
+-- `cells::turned` exchanges the positions where it is asked to.
+use Rattle.cells.proofs.turned.Statement.{statement}
+use Rattle.cells.proofs.turned.Tie as tie
 
 returns : tie.Need-returns
 returns c = rw (c .if1 .taken)

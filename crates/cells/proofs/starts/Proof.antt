@@ -1,12 +1,12 @@
--- `tally::starts` reads the cell in front only where there is one.
+-- `cells::starts` reads the cell in front only where there is one.
 use Prim.Native.Nat.{_+_, _-_, _*_, _≤_, _<_}
 use native.Mathlib.Nat.{mul-le-mul-right}
 use native.Mathlib.Omega.{arith}
 use lib.ListN.{length}
 use borrow.Author.Tests.{le-leb, lt-leb, eq-eqb, ne-eqb}
 use borrow.Author.Needs.{needs}
-use Rattle.tally.proofs.starts.Statement.{statement}
-use Rattle.tally.proofs.starts.Tie as tie
+use Rattle.cells.proofs.starts.Statement.{statement}
+use Rattle.cells.proofs.starts.Tie as tie
 
 -- the first of the last cells is in the slice
 first : (c : tie.Else1) → let a = c .before .args in a .at + (a .n - a .z) * a .step < length (a .cells .now)

@@ -1,4 +1,4 @@
--- `tally::lines_start` looks at a line a turn.
+-- `cells::lines_start` looks at a line a turn.
 use mathlib.Core.Path.{_≡_, sym, ap, _∙_}
 use Prim.Native.Nat.{ℕ, _+_, _-_, _<_, max}
 use native.Mathlib.Omega.{arith}
@@ -7,10 +7,10 @@ use borrow.Author.Needs.{needs}
 use Rattle.limits.specs.Limits.{maxPosition}
 use Rattle.laws.specs.Every.{every}
 use Rattle.record.specs.Record.{listed}
-use Rattle.tally.specs.Steps.{turnAll, peakAt, lineTest}
-use Rattle.tally.proofs.Changes.{AtLine, line-first, line-fits, line-next, test-next}
-use Rattle.tally.proofs.lines_start.Statement.{statement}
-use Rattle.tally.proofs.lines_start.Tie as tie
+use Rattle.cells.specs.Steps.{turnAll, peakAt, lineTest}
+use Rattle.cells.proofs.Rows.{AtLine, line-first, line-fits, line-next, test-next}
+use Rattle.cells.proofs.lines_start.Statement.{statement}
+use Rattle.cells.proofs.lines_start.Tie as tie
 
 abbrev Inv-loop : tie.InvT-loop
 Inv-loop cells «record» flip lines n stride step top all₀ y₀ at₀ x₀ all y at x =

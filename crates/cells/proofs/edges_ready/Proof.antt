@@ -1,10 +1,10 @@
--- `tally::edges_ready` looks at the cells as rows, and as columns.
+-- `cells::edges_ready` looks at the cells as rows, and as columns.
 use mathlib.Core.Path.{ap₂}
 use mathlib.Core.Bool.{_&&_}
 use borrow.Author.Needs.{needs}
-use Rattle.tally.proofs.Changes.{rows-lie, columns-lie}
-use Rattle.tally.proofs.edges_ready.Statement.{statement}
-use Rattle.tally.proofs.edges_ready.Tie as tie
+use Rattle.cells.proofs.Rows.{rows-lie, columns-lie}
+use Rattle.cells.proofs.edges_ready.Statement.{statement}
+use Rattle.cells.proofs.edges_ready.Tie as tie
 
 wide-requires : tie.Need-wide-requires
 wide-requires c κs = search needs

@@ -1,14 +1,8 @@
 -- The words of a tally written out.
 use mathlib.Core.List.{List, [], _∷_, _++_}
-use Prim.Native.Nat.{ℕ, zero, suc, _+_}
-use Rattle.laws.specs.Lists.{listTo}
+use Prim.Native.Nat.{ℕ, _+_}
 use Rattle.soundness.specs.Tally.{width, cellSum}
-
--- ---- a tally from its cells
--- n rows of m
-abbrev pub cellRows : ℕ → ℕ → (ℕ → ℕ → ℕ) → List ℕ
-cellRows zero m c = []
-cellRows (suc n) m c = listTo m (c 0) ++ cellRows n m (λ i. c (suc i))
+use Rattle.cells.specs.Cells.{cellRows}
 
 -- the words in front of the cells c
 abbrev pub heading : ℕ → ℕ → ℕ → (ℕ → ℕ → ℕ) → List ℕ

@@ -7,8 +7,8 @@ use native.Mathlib.Omega.{arith}
 use lib.ListN.{length, getD, set, take, drop, replicate, length-append, length-replicate, length-drop, replicate-append-replicate, take-append-drop}
 use lib.Seq.{length-take-le, drop-cons, set-at, getD-at, append-snoc, take-add, take-append-add, drop-append-add, getD-append-add, getD-drop, drop-drop}
 use Rattle.laws.specs.Lists.{listTo, list-length, list-at, list-same, list-split, list-snoc, take-list}
-use Rattle.tally.specs.Cells.{cellRows}
-use Rattle.tally.specs.Steps.{changedWord, changedPart}
+use Rattle.cells.specs.Cells.{cellRows}
+use Rattle.cells.specs.Steps.{changedWord, changedPart}
 
 pub table-length : (n m : ℕ) (c : ℕ → ℕ → ℕ) → length (cellRows n m c) ≡ n * m
 table-length zero m c = sym (zero-mul m)
