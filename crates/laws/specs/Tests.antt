@@ -39,6 +39,9 @@ pub and-both : (a b : Bool) → (a && b) ≡ true → (a ≡ true) × (b ≡ tru
 and-both true b e = (refl, e)
 and-both false b e = absurd (false≢true e)
 
+pub both-true : {a b : Bool} → a ≡ true → b ≡ true → (a && b) ≡ true
+both-true e f = rw (e, f)
+
 -- 1 for a test that passes, 0 for one that does not
 abbrev pub flag : Bool → ℕ
 flag b = cond b 1 0

@@ -13,7 +13,7 @@ use lib.ListN.{getD, drop}
 use lib.Seq.{getD-drop}
 use borrow.Author.Tests.{eqb-true, eq-eqb, leb-true, le-leb, lt-leb}
 use Rattle.limits.specs.Limits.{maxRounds, maxClass}
-use Rattle.laws.specs.Tests.{T-ext, T-true, and-both, order}
+use Rattle.laws.specs.Tests.{T-ext, T-true, and-both, both-true, order}
 use Rattle.laws.specs.Every.{every, every-at, every-all}
 use Rattle.laws.specs.Sums.{sumTo, sum-same, sum-split, sum-rows}
 use Rattle.chance.specs.Chance.{Grows}
@@ -21,9 +21,6 @@ use Rattle.chance.proofs.Bounds.{rising-all}
 use Rattle.soundness.specs.Tally.{headWords, tallySize1, tallySize2, rounds, tallyScore, width, cell, cellSum, fair, isSound, Sound}
 use Rattle.soundness.specs.Steps.{cut, risesBy, sumFrom, rowsRise, cellsFair, isFair}
 use Rattle.soundness.proofs.Totals.{total-most}
-
-both : {a b : Bool} → a ≡ true → b ≡ true → a && b ≡ true
-both e f = rw (e, f)
 
 -- two tests that pass together are equal
 same-test : (a b : Bool) → (a ≡ true) ↔ (b ≡ true) → a ≡ b
@@ -82,7 +79,7 @@ module _ (t : List ℕ) where
 
   fair-is : (l1 l2 : ℕ) → Fair l1 l2 → fair t l1 l2 ≡ true
   fair-is l1 l2 f =
-      both (both (le-leb (cell t l1 l2) m (f .0)) (unless-is n1 l1 (cell t l1 l2) (cell t (l1 + 1) l2) (f .1))) (unless-is n2 l2 (cell t l1 l2) (cell t l1 (l2 + 1)) (f .2))
+      both-true (both-true (le-leb (cell t l1 l2) m (f .0)) (unless-is n1 l1 (cell t l1 l2) (cell t (l1 + 1) l2) (f .1))) (unless-is n2 l2 (cell t l1 l2) (cell t l1 (l2 + 1)) (f .2))
 
   pub fair-grows : (allFair ≡ true) ↔ Grows n1 n2 m (cell t)
   fair-grows = (
@@ -148,8 +145,8 @@ module _ (t : List ℕ) where
 
   grows-code : Grows n1 n2 m (cell t) → cellsFair cells n1 n2 m ≡ true
   grows-code g =
-      both top
-      (both (every-all (λ i. leb (getD cells (0 + i) 0) (getD cells (0 + i + width n2) 0)) (n1 * width n2) down)
+      both-true top
+      (both-true (every-all (λ i. leb (getD cells (0 + i) 0) (getD cells (0 + i + width n2) 0)) (n1 * width n2) down)
       (every-all (λ l1. risesBy cells (l1 * width n2) 1 n2) (n1 + 1) (λ l1 h. every-all (λ i. leb (getD cells (l1 * width n2 + i) 0) (getD cells (l1 * width n2 + i + 1) 0)) n2 (along l1 h))))
     where
       top : leb (getD cells (n1 * width n2 + n2) 0) m ≡ true
@@ -193,11 +190,11 @@ module _ (t : List ℕ) where
     λ e.
         let u = and-both (cellsFair cells n1 n2 m) (eqb (tallyScore t) (cut code-sum)) e in
         let g = code-grows (u .0) in
-        both (fair-grows .1 g) (eq-eqb (tallyScore t) sum (eqb-true (tallyScore t) (cut code-sum) (u .1) ∙ uncut h1 h2 h3 g)),
+        both-true (fair-grows .1 g) (eq-eqb (tallyScore t) sum (eqb-true (tallyScore t) (cut code-sum) (u .1) ∙ uncut h1 h2 h3 g)),
     λ e.
         let u = and-both allFair (eqb (tallyScore t) sum) e in
         let g = fair-grows .0 (u .0) in
-        both (grows-code g) (eq-eqb (tallyScore t) (cut code-sum) (eqb-true (tallyScore t) sum (u .1) ∙ sym (uncut h1 h2 h3 g))),
+        both-true (grows-code g) (eq-eqb (tallyScore t) (cut code-sum) (eqb-true (tallyScore t) sum (u .1) ∙ sym (uncut h1 h2 h3 g))),
   )
 
   -- THE TEST says what document 01 says
@@ -209,5 +206,5 @@ module _ (t : List ℕ) where
         let v = and-both (leb n1 maxClass && leb n2 maxClass) (leb m maxRounds) (u .0) in
         let w = and-both (leb n1 maxClass) (leb n2 maxClass) (v .0) in
         record { small1 = leb-true n1 maxClass (w .0); small2 = leb-true n2 maxClass (w .1); few = leb-true m maxRounds (v .1); grows = fair-grows .0 (u .1); total = eqb-true (tallyScore t) sum (x .1) },
-    λ s. both (both (both (both (le-leb n1 maxClass (s .small1)) (le-leb n2 maxClass (s .small2))) (le-leb m maxRounds (s .few))) (fair-grows .1 (s .grows))) (eq-eqb (tallyScore t) sum (s .total)),
+    λ s. both-true (both-true (both-true (both-true (le-leb n1 maxClass (s .small1)) (le-leb n2 maxClass (s .small2))) (le-leb m maxRounds (s .few))) (fair-grows .1 (s .grows))) (eq-eqb (tallyScore t) sum (s .total)),
   )

@@ -4,7 +4,7 @@ use Prim.Native.Nat.{ℕ, _+_, _*_, _≤_}
 use native.Mathlib.Nat.{mul-zero, mul-le-mul-left, mul-le-mul-right}
 use native.Mathlib.Omega.{arith}
 use Rattle.limits.specs.Limits.{maxClass}
-use Rattle.laws.specs.Sums.{sumTo, sum-same, sum-add, sum-times, sum-le, sum-each, sum-most}
+use Rattle.laws.specs.Sums.{sumTo, sum-same, sum-add, sum-times, sum-each, sum-most}
 use Rattle.soundness.specs.Tally.{width, cellSum}
 
 module _ (n1 n2 : ℕ) where
@@ -13,9 +13,6 @@ module _ (n1 n2 : ℕ) where
 
   pub total-same : (c d : ℕ → ℕ → ℕ) → ((l1 l2 : ℕ) → l1 ≤ n1 → l2 ≤ n2 → c l1 l2 ≡ d l1 l2) → cellSum n1 n2 c ≡ cellSum n1 n2 d
   total-same c d e = sum-same (n1 + 1) (row c) (row d) (λ l1 h. sum-same (width n2) (c l1) (d l1) (λ l2 k. e l1 l2 (omega arith) (omega arith)))
-
-  pub total-le : (c d : ℕ → ℕ → ℕ) → ((l1 l2 : ℕ) → l1 ≤ n1 → l2 ≤ n2 → c l1 l2 ≤ d l1 l2) → cellSum n1 n2 c ≤ cellSum n1 n2 d
-  total-le c d e = sum-le (n1 + 1) (row c) (row d) (λ l1 h. sum-le (width n2) (c l1) (d l1) (λ l2 k. e l1 l2 (omega arith) (omega arith)))
 
   pub total-add : (c d : ℕ → ℕ → ℕ) → cellSum n1 n2 (λ l1 l2. c l1 l2 + d l1 l2) ≡ cellSum n1 n2 c + cellSum n1 n2 d
   total-add c d =

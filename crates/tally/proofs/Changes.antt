@@ -9,10 +9,10 @@ use lib.Dec.{T}
 use lib.ListN.{length, getD, set, take, drop, length-set}
 use lib.Seq.{getD-drop, drop-drop, drop-length, drop-set-lt}
 use borrow.Rule.Slice.PartMut.{putMid, post-is}
-use Rattle.laws.specs.Tests.{flag, flag-le}
+use Rattle.laws.specs.Tests.{flag}
 use Rattle.record.specs.Record.{recordHolds, recordSize1, recordSize2}
 use Rattle.soundness.specs.Tally.{width, headWords, roundsPlace, scorePlace, tallySize1, tallySize2, rounds, tallyScore, words, cell, cellSum, Sound}
-use Rattle.soundness.proofs.Totals.{total-same, total-le, total-add, total-times, total-most}
+use Rattle.soundness.proofs.Totals.{total-same, total-add, total-times, total-most}
 use Rattle.cells.specs.Cells.{cellRows, held}
 use Rattle.tally.specs.Words.{heading, tallyOf}
 use Rattle.tally.specs.Calls.{added, removed}
@@ -21,6 +21,7 @@ use Rattle.tally.specs.Steps.{readyAnswer, Changing, changedTally}
 use Rattle.limits.specs.Limits.{maxRounds, maxClass}
 use Rattle.answer.specs.Outcome.{success}
 use Rattle.cells.proofs.Tables.{table-same}
+use Rattle.cells.proofs.Rows.{held-most}
 use Rattle.tally.proofs.Headings.{headOf, head-score, score-at, counted, tally-length, tally-by}
 use Rattle.tally.proofs.Readies.{ready-sound, ready-long, ready-cells}
 
@@ -41,6 +42,19 @@ module _ (up down : ℕ) (r t : List ℕ) where
 
   abbrev cells-new : ℕ → ℕ → ℕ
   cells-new l1 l2 = changedCell up down r n1 n2 l1 l2 (cell t l1 l2)
+
+  -- where no cell falls below 0: the sum of all cells before and after
+  sums-are : ((l1 l2 : ℕ) → l1 ≤ n1 → l2 ≤ n2 → T (recordHolds r (n1 - l1) (n2 - l2)) → down ≤ cell t l1 l2 + up)
+      → cellSum n1 n2 cells-new + heldCells r n1 n2 * down ≡ cellSum n1 n2 (cell t) + heldCells r n1 n2 * up
+  sums-are cells =
+      let a = total-add n1 n2 cells-new (λ l1 l2. down * h l1 l2) in
+      let b = total-add n1 n2 (cell t) (λ l1 l2. up * h l1 l2) in
+      let c = total-same n1 n2 (λ l1 l2. cells-new l1 l2 + down * h l1 l2) (λ l1 l2. cell t l1 l2 + up * h l1 l2) (λ l1 l2 p q. one (recordHolds r (n1 - l1) (n2 - l2)) (cell t l1 l2) (cells l1 l2 p q)) in
+      omega (arith, a, b, c, total-times n1 n2 down h, total-times n1 n2 up h)
+    where
+      one : (b : Bool) (x : ℕ) → (T b → down ≤ x + up) → cond b (changedWord up down x) x + down * flag b ≡ x + up * flag b
+      one true x f = omega (arith, f tt)
+      one false x f = omega arith
 
   module _ (ok : Changing up down r t) where
     -- M is changed first; the cells are as they were
@@ -76,20 +90,10 @@ module _ (up down : ℕ) (r t : List ℕ) where
     half-score l e = subst (λ x. (scorePlace < length x) × (getD x scorePlace 0 ≡ tallyScore t)) (sym (e ∙ half-is)) (score-at n1 n2 m-new (tallyScore t) cells-now)
 
     -- the score follows the cells
-    one-cell : (l1 l2 : ℕ) → l1 ≤ n1 → l2 ≤ n2 → cells-new l1 l2 + down * h l1 l2 ≡ cell t l1 l2 + up * h l1 l2
-    one-cell l1 l2 p q =
-        go (recordHolds r (n1 - l1) (n2 - l2)) (λ y. rw (← getD-drop headWords t (l1 * width n2 + l2) 0) (ok .each l1 l2 p q y .1))
-      where
-        go : (b : Bool) → (T b → down ≤ cell t l1 l2 + up) → cond b (changedWord up down (cell t l1 l2)) (cell t l1 l2) + down * flag b ≡ cell t l1 l2 + up * flag b
-        go true f = omega (arith, f tt)
-        go false f = omega arith
-
     new-score : changedWord (heldCells r n1 n2 * up) (heldCells r n1 n2 * down) (tallyScore t) ≡ cellSum n1 n2 cells-new
     new-score =
-        let a = total-add n1 n2 cells-new (λ l1 l2. down * h l1 l2) in
-        let b = total-add n1 n2 (cell t) (λ l1 l2. up * h l1 l2) in
-        let c = total-same n1 n2 (λ l1 l2. cells-new l1 l2 + down * h l1 l2) (λ l1 l2. cell t l1 l2 + up * h l1 l2) one-cell in
-        omega (arith, a, b, c, total-times n1 n2 down h, total-times n1 n2 up h, ok .total, ok .sum .1)
+        let e = sums-are (λ l1 l2 p q y. rw (← getD-drop headWords t (l1 * width n2 + l2) 0) (ok .each l1 l2 p q y .1)) in
+        omega (arith, e, ok .total, ok .sum .1)
 
     pub change-out : (l : List ℕ) (k : ℕ) → l ≡ half → k ≡ heldCells r n1 n2 → set l scorePlace (changedWord (k * up) (k * down) (getD l scorePlace 0)) ≡ changedTally up down r t
     change-out l k e f =
@@ -114,7 +118,7 @@ module _ (up down : ℕ) (r t : List ℕ) where
         many = (omega (arith, sound .few), many);
         each = λ l1 l2 h k y. rw (getD-drop headWords t (l1 * width n2 + l2) 0) (omega (arith, sound .few, sound .grows .below l1 l2 h k), cells l1 l2 h k y);
         total = sound .total;
-        sum = (omega (arith, sound .total, all-cells, all-held, mul-le-mul-left (heldCells r n1 n2) one), omega (arith, sound .total, at-least, total-times n1 n2 down h, total-add n1 n2 (cell t) (λ l1 l2. up * h l1 l2), total-times n1 n2 up h));
+        sum = (omega (arith, sound .total, all-cells, held-most r n1 n2 (sound .small1) (sound .small2), mul-le-mul-left (heldCells r n1 n2) one), omega (arith, sound .total, sums-are cells));
       }
     where
       sound : Sound t
@@ -122,19 +126,6 @@ module _ (up down : ℕ) (r t : List ℕ) where
 
       all-cells : cellSum n1 n2 (cell t) ≤ (maxClass + 1) * ((maxClass + 1) * maxRounds)
       all-cells = total-most n1 n2 maxRounds (cell t) (sound .small1) (sound .small2) (λ l1 l2 p q. le-trans (sound .grows .below l1 l2 p q) (sound .few))
-
-      all-held : heldCells r n1 n2 ≤ (maxClass + 1) * ((maxClass + 1) * 1)
-      all-held = total-most n1 n2 1 h (sound .small1) (sound .small2) (λ l1 l2 p q. flag-le (recordHolds r (n1 - l1) (n2 - l2)))
-
-      one-cell : (l1 l2 : ℕ) → l1 ≤ n1 → l2 ≤ n2 → down * h l1 l2 ≤ cell t l1 l2 + up * h l1 l2
-      one-cell l1 l2 p q = go (recordHolds r (n1 - l1) (n2 - l2)) (cells l1 l2 p q)
-        where
-          go : (b : Bool) → (T b → down ≤ cell t l1 l2 + up) → down * flag b ≤ cell t l1 l2 + up * flag b
-          go true f = omega (arith, f tt)
-          go false f = omega arith
-
-      at-least : cellSum n1 n2 (λ l1 l2. down * h l1 l2) ≤ cellSum n1 n2 (λ l1 l2. cell t l1 l2 + up * h l1 l2)
-      at-least = total-le n1 n2 (λ l1 l2. down * h l1 l2) (λ l1 l2. cell t l1 l2 + up * h l1 l2) one-cell
 
 -- add and remove are such changes
 module _ (r t : List ℕ) where

@@ -10,7 +10,7 @@ use lib.Dec.{ltb}
 use lib.ListN.{getD, drop}
 use lib.Seq.{getD-drop}
 use borrow.Author.Tests.{le-leb, lt-leb, ltb-true, lt-ltb, eq-eqb, ne-eqb}
-use Rattle.laws.specs.Tests.{T-true, T-ext, T-or, and-both, order, equal, flag}
+use Rattle.laws.specs.Tests.{T-true, T-ext, T-or, and-both, both-true, order, equal, flag}
 use Rattle.laws.specs.Every.{every, every-at, every-all}
 use Rattle.laws.specs.Members.{_∈_}
 use Rattle.front.specs.declared.Pair.{Pair}
@@ -28,9 +28,6 @@ use Rattle.cells.proofs.Peaks.{holds-peak, peak-next, peak-most, turn-within, t
 use Rattle.tally.proofs.Wholes.{tally-sound}
 use Rattle.cells.proofs.Rows.{held-true, held-false}
 use Rattle.tally.proofs.Readies.{ready-sound, ready-fits, Lowers, removable-means}
-
-both : {a b : Bool} → a ≡ true → b ≡ true → a && b ≡ true
-both e f = rw (e, f)
 
 -- in a line of n cells, the last z of which are to be lowered, the first of these is above the one in front of it, or above 0
 record Begins (f : ℕ → ℕ) (n z : ℕ) : Type 0 where
@@ -311,7 +308,7 @@ module _ (r t : List ℕ) (ok : readyAnswer r t ≡ success (0 ∷ [])) where
         go false q = rw (at-cell n1 n2 (n1 * w + n2) refl) (lt-ltb (cell t n1 n2) m (omega (arith, last-held false q, grown .below n1 n2 (omega arith) (omega arith), low .0)))
 
     removable-ready : rows && columns && top ≡ true
-    removable-ready = both (both (edge-rows its-edges) (edge-columns its-edges (low .1))) its-top
+    removable-ready = both-true (both-true (edge-rows its-edges) (edge-columns its-edges (low .1))) its-top
 
   -- THE CODE'S TEST is that of 31
   pub removable-is : (rows && columns && top) ≡ removable r t
