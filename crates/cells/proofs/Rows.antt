@@ -81,10 +81,6 @@ pub record RowsDone (up down : ℕ) (r old cells : List ℕ) (n1 n2 at x : ℕ) 
   -- as many cells
   pub long : length cells ≡ length old
 
--- of all cells at most so many
-pub held-most : (r : List ℕ) (n1 n2 : ℕ) → n1 ≤ maxClass → n2 ≤ maxClass → heldCells r n1 n2 ≤ (maxClass + 1) * ((maxClass + 1) * 1)
-held-most r n1 n2 h1 h2 = total-most n1 n2 1 (held r n1 n2) h1 h2 (λ l1 l2 p q. flag-le (recordHolds r (n1 - l1) (n2 - l2)))
-
 module _ {r old : List ℕ} {n1 n2 : ℕ} (ok : Fitting old r n1 n2) where
   good : IsRecord r
   good = record-is r .0 (ok .is)
@@ -212,9 +208,12 @@ module _ {r old : List ℕ} {n1 n2 : ℕ} (ok : Fitting old r n1 n2) where
   pub count-first : 0 ≡ heldRows r n1 n2 (n1 + 1 - (n1 + 1))
   count-first = let e : n1 + 1 - (n1 + 1) ≡ 0 = omega arith in rw e refl
 
+  pub held-most : heldCells r n1 n2 ≤ (maxClass + 1) * ((maxClass + 1) * 1)
+  held-most = total-most n1 n2 1 (held r n1 n2) (small .0) (small .1) (λ l1 l2 p q. flag-le (recordHolds r (n1 - l1) (n2 - l2)))
+
   pub count-small : (x n : ℕ) → n ≡ heldRows r n1 n2 (n1 + 1 - x) → n ≤ (maxClass + 1) * ((maxClass + 1) * 1)
   count-small x n e =
-      omega (arith, e, held-most r n1 n2 (small .0) (small .1), sum-part (n1 + 1 - x) (n1 + 1) (λ l1. sumTo (width n2) (held r n1 n2 l1)) (omega arith))
+      omega (arith, e, held-most, sum-part (n1 + 1 - x) (n1 + 1) (λ l1. sumTo (width n2) (held r n1 n2 l1)) (omega arith))
 
   pub count-last : {x n : ℕ} → n ≡ heldRows r n1 n2 (n1 + 1 - x) → x ≡ 0 → n ≡ heldCells r n1 n2
   count-last {x} e z = let f : n1 + 1 - x ≡ n1 + 1 = omega arith in e ∙ ap (heldRows r n1 n2) f

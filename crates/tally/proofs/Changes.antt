@@ -118,7 +118,7 @@ module _ (up down : ℕ) (r t : List ℕ) where
         many = (omega (arith, sound .few), many);
         each = λ l1 l2 h k y. rw (getD-drop headWords t (l1 * width n2 + l2) 0) (omega (arith, sound .few, sound .grows .below l1 l2 h k), cells l1 l2 h k y);
         total = sound .total;
-        sum = (omega (arith, sound .total, all-cells, held-most r n1 n2 (sound .small1) (sound .small2), mul-le-mul-left (heldCells r n1 n2) one), omega (arith, sound .total, sums-are cells));
+        sum = (omega (arith, sound .total, all-cells, held-most (ready-cells r t ok), mul-le-mul-left (heldCells r n1 n2) one), omega (arith, sound .total, sums-are cells));
       }
     where
       sound : Sound t
