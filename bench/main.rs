@@ -4,7 +4,6 @@ mod maxcap;
 mod networks;
 mod plain;
 mod removal;
-mod routes;
 mod searches;
 mod study;
 mod sweep;

@@ -1,45 +1,26 @@
 //! The time of a search a call, as a ratio to 002's BO-MaxCapPath, to the library's own method in safe
 //! Rust and to removal testing, on the same files.
 
-use crate::{maxcap, median, networks, removal, routes, sweep};
+use crate::{maxcap, median, networks, removal, sweep};
 use std::hint::black_box;
 use std::time::Instant;
 
 extern "C" {
-    fn medlarbrace_search(
-        file: *const u8,
-        file_len: usize,
-        round: u64,
-        record: *mut u8,
-        record_len: usize,
-        routes: *mut u8,
-        routes_len: usize,
-        written: *mut u64,
-    ) -> u32;
+    fn medlarbrace_search(file: *const u8, file_len: usize, round: u64, out: *mut u8, out_len: usize, written: *mut u64) -> u32;
 }
 
-fn library(file: &[u8], round: usize, record: &mut [u8], routes: &mut [u8]) -> Result<usize, u32> {
-    let (mut written, r) = (0, round as u64);
-    match unsafe { medlarbrace_search(file.as_ptr(), file.len(), r, record.as_mut_ptr(), record.len(), routes.as_mut_ptr(), routes.len(), &mut written) } {
+fn library(file: &[u8], round: usize, out: &mut [u8]) -> Result<usize, u32> {
+    let mut written = 0;
+    match unsafe { medlarbrace_search(file.as_ptr(), file.len(), round as u64, out.as_mut_ptr(), out.len(), &mut written) } {
         0 => Ok(written as usize),
         number => Err(number),
     }
 }
 
-/// A study file, a round, a slice for the record and one for the routes.
-type Search = fn(&[u8], usize, &mut [u8], &mut [u8]) -> Result<usize, u32>;
+type Search = fn(&[u8], usize, &mut [u8]) -> Result<usize, u32>;
 
-/// The library, and its peers, which answer the front alone.
-const SEARCHES: [(&str, Search); 4] = [
-    ("library", library),
-    ("maxcap", |file, r, record, _| maxcap::search(file, r, record)),
-    ("sweep", |file, r, record, _| sweep::search(file, r, record)),
-    ("removal", |file, r, record, _| removal::search(file, r, record)),
-];
-
-/// Slices that suffice for any study.
-const RECORD_BYTES: usize = 133;
-const ROUTES_BYTES: usize = 65 * 161;
+/// The library and its peers.
+const SEARCHES: [(&str, Search); 4] = [("library", library), ("maxcap", maxcap::search), ("sweep", sweep::search), ("removal", removal::search)];
 
 const ROUNDS: usize = 200;
 const FILES: usize = 1000;
@@ -60,33 +41,27 @@ impl Row {
 
 /// Nanoseconds a call over all rounds of all files, once.
 fn once(search: Search, row: &Row) -> f64 {
-    let (mut record, mut routes) = ([0u8; RECORD_BYTES], [0u8; ROUTES_BYTES]);
+    let mut out = [0u8; 133];
     let start = Instant::now();
     for file in &row.files {
         for r in 0..row.rounds {
-            black_box(search(black_box(file), r, &mut record, &mut routes)).ok();
-            black_box((&record, &routes));
+            black_box(search(black_box(file), r, &mut out)).ok();
+            black_box(&out);
         }
     }
     start.elapsed().as_nanos() as f64 / row.calls()
 }
 
-/// What the slices hold before a search that is compared.
-const BEFORE: u8 = 7;
-
-/// All records compared, and the library's routes tested; the pairs of a round on average, and the
-/// looks of the worst.
+/// All records compared; the pairs of a round on average, and the looks of the worst.
 fn compare(row: &Row) -> (f64, f64) {
     let (mut pairs, mut looks) = (0, 0f64);
     for (i, file) in row.files.iter().enumerate() {
         for r in 0..row.rounds {
-            let mut shown = [BEFORE; ROUTES_BYTES];
             let [x, y, z, w] = SEARCHES.map(|(_, search)| {
-                let mut record = [BEFORE; RECORD_BYTES];
-                (search(file, r, &mut record, &mut shown), record)
+                let mut out = [7u8; 133];
+                (search(file, r, &mut out), out)
             });
             assert!(x.0.is_ok() && x == y && y == z && z == w, "{}: the records of file {} differ in round {}", row.name, i, r);
-            assert!(routes::good(file, r, &x.1, &shown, BEFORE), "{}: the routes of file {} are not good in round {}", row.name, i, r);
             pairs += x.1[2] as usize;
             looks = looks.max(sweep::looks(file, r));
         }

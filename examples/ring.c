@@ -1,5 +1,5 @@
-/* The sample ring: written, searched, each pair with the route behind it, with a pipe that fails, converted from its old file,
- * joined, tallied with its score, a front taken back, and its reliability by age.
+/* The sample ring: written, searched, with a pipe that fails, converted from its old file, joined, tallied with its score, a
+ * front taken back, and its reliability by age.
  *
  *     examples/run-c [FILE]
  *
@@ -41,18 +41,6 @@ static void print_pairs(const char *name, const uint8_t *record)
     for (int i = 0; i < record[2]; i++)
         printf(" %d,%d", record[3 + 2 * i], record[4 + 2 * i]);
     printf("\n");
-}
-
-/* each pair with the route behind it: a count byte, then that many nodes from source to target */
-static void print_routes(const uint8_t *record, const uint8_t *route)
-{
-    for (int i = 0; i < record[2]; i++) {
-        printf("route of %d,%d:", record[3 + 2 * i], record[4 + 2 * i]);
-        for (int j = 1; j <= route[0]; j++)
-            printf(" %d", route[j]);
-        printf("\n");
-        route += 1 + route[0];
-    }
 }
 
 /* the cells by l1, the number of class 1 stations that work, and within a line by l2 */
@@ -98,13 +86,11 @@ static void print_file(const uint8_t *file, size_t length)
 
 static void print_piped(void)
 {
-    uint8_t file[sizeof nodes + sizeof piped_arcs + sizeof piped_rounds + 32];
-    uint8_t front[MEDLARBRACE_RECORD_BYTES], routes[MEDLARBRACE_ROUTES_BYTES];
+    uint8_t file[sizeof nodes + sizeof piped_arcs + sizeof piped_rounds + 32], front[MEDLARBRACE_RECORD_BYTES];
     uint64_t length, written;
     must(medlarbrace_write(nodes, sizeof nodes, piped_arcs, sizeof piped_arcs, piped_rounds, sizeof piped_rounds, 0, 1, 1, file, sizeof file, &length), "write");
-    must(medlarbrace_search(file, length, 0, front, sizeof front, routes, sizeof routes, &written), "search");
+    must(medlarbrace_search(file, length, 0, front, sizeof front, &written), "search");
     print_pairs("front with a pipe that fails", front);
-    print_routes(front, routes);
 }
 
 static void print_converted(const uint8_t *file, size_t length)
@@ -131,7 +117,7 @@ int main(int argc, char **argv)
 {
     static uint32_t tally[MEDLARBRACE_TALLY_WORDS];
     uint8_t file[sizeof nodes + sizeof arcs + sizeof rounds + 32];
-    uint8_t front[MEDLARBRACE_RECORD_BYTES], joined[MEDLARBRACE_RECORD_BYTES], routes[MEDLARBRACE_ROUTES_BYTES];
+    uint8_t front[MEDLARBRACE_RECORD_BYTES], joined[MEDLARBRACE_RECORD_BYTES];
     uint32_t weights[3];
     uint64_t length, written;
 
@@ -140,9 +126,8 @@ int main(int argc, char **argv)
         save(argv[1], file, length);
     print_file(file, length);
 
-    must(medlarbrace_search(file, length, 0, front, sizeof front, routes, sizeof routes, &written), "search");
+    must(medlarbrace_search(file, length, 0, front, sizeof front, &written), "search");
     print_pairs("front", front);
-    print_routes(front, routes);
     print_piped();
     print_converted(file, length);
     uint64_t searched = written;

@@ -1,5 +1,5 @@
-"""The sample ring: written, searched, each pair with the route behind it, with a pipe that fails, converted from its old file,
-joined, tallied with its score, a front taken back, and its reliability by age.
+"""The sample ring: written, searched, with a pipe that fails, converted from its old file, joined, tallied with its score, a
+front taken back, and its reliability by age.
 
     examples/run-python [FILE]
 
@@ -20,7 +20,7 @@ WORD_SLICE = [TO_WORD, ctypes.c_size_t]
 CALLS = {
     "open": SLICE + WORD_SLICE,
     "round": SLICE + [LONG, TO_LONG, TO_LONG],
-    "search": SLICE + [LONG] + SLICE * 2 + [TO_LONG],
+    "search": SLICE + [LONG] + SLICE + [TO_LONG],
     "write": SLICE * 3 + [LONG] * 3 + SLICE + [TO_LONG],
     "convert": SLICE * 2 + [TO_LONG],
     "series": SLICE * 3 + [TO_LONG],
@@ -40,7 +40,7 @@ for name, types in CALLS.items():
 OLD_FILE = bytes([0, 0, 1, 1, 2, 2, 0, 2, 2, 4, 4, 1, 0, 3, 3, 1, 0, 5, 5, 1, 3, 2, 5, 4])
 OLD_FILE += b"".join(word.to_bytes(4, "little") for word in (6, 7, 1, 0, 1, 24, 18, 4))
 
-HEADER_WORDS, RECORD_BYTES, ROUTES_BYTES, TALLY_WORDS = 7, 133, 65 * 161, 4229
+HEADER_WORDS, RECORD_BYTES, TALLY_WORDS = 7, 133, 4229
 
 
 class Refused(Exception):
@@ -85,24 +85,8 @@ def place(file, number):
     return start.value, count.value
 
 
-def search(file, number):
-    """The record of a round's front, and a list of nodes for each of its pairs: the route behind it."""
-    front, routes, written = (BYTE * RECORD_BYTES)(), (BYTE * ROUTES_BYTES)(), LONG()
-    call("search", *lent(file), number, front, RECORD_BYTES, routes, ROUTES_BYTES, written)
-    return bytes(front[: written.value]), list(split(routes, front[2]))
-
-
-def split(routes, pairs):
-    """So many routes, each a count byte and then that many nodes from source to target."""
-    at = 0
-    for _ in range(pairs):
-        end = at + 1 + routes[at]
-        yield routes[at + 1 : end]
-        at = end
-
-
 def record(name, *arguments):
-    """The record that series or parallel writes."""
+    """The record that search, series or parallel writes."""
     out, written = (BYTE * RECORD_BYTES)(), LONG()
     call(name, *arguments, out, RECORD_BYTES, written)
     return bytes(out[: written.value])
@@ -152,12 +136,6 @@ def print_pairs(name, front):
     print(f"{name}:", *(f"{front[i]},{front[i + 1]}" for i in range(3, len(front), 2)))
 
 
-def print_routes(front, routes):
-    """Each pair with the route behind it."""
-    for i, route in enumerate(routes):
-        print(f"route of {front[3 + 2 * i]},{front[4 + 2 * i]}:", *route)
-
-
 def print_counts(tally):
     """The cells by l1, the number of class 1 stations that work, and within a line by l2."""
     n1, n2 = tally[0], tally[1]
@@ -185,16 +163,13 @@ def main():
     print(f"nodes {n} arcs {a} rounds {m} source {s} target {t} sizes {n1} {n2}")
     print(f"round 0: {count} bytes from byte {start}")
 
-    front, routes = search(file, 0)
+    front = record("search", *lent(file), 0)
     # the front of another block of the same class sizes: one pair, (2, 3)
     other = [2, 2, 1, 2, 3]
     print_pairs("front", front)
-    print_routes(front, routes)
     # the last pipe, 5 to 1, of class 2: its third member, after nodes 4 and 5, and the first to fail
     piped = write(nodes, arcs[:-1] + [2], [1, 0, 2, 1, 0], 0, 1, 1)
-    piped_front, piped_routes = search(piped, 0)
-    print_pairs("front with a pipe that fails", piped_front)
-    print_routes(piped_front, piped_routes)
+    print_pairs("front with a pipe that fails", record("search", *lent(piped), 0))
     # the ring's file up to version 2.1: two bytes an arc, orders by node numbers
     new = convert(OLD_FILE)
     print(f"converted: {len(new)} bytes,", "the same" if new == file else "different")

@@ -1,6 +1,6 @@
 /*
- * Medlarbrace: fronts, routes, tallies and reliability of a network whose stations and pipes are of
- * two classes and fail in given orders. docs/USING.md walks through a study and explains the terms.
+ * Medlarbrace: fronts, tallies and reliability of a network whose stations and pipes are of two
+ * classes and fail in given orders. docs/USING.md walks through a study and explains the terms.
  *
  * Every call returns 0, or the number of a refusal: the first that applies, in the order in which the
  * call lists its numbers (what they mean is below).
@@ -15,7 +15,7 @@
  * while the call runs. Nothing is asked of the contents or of the numbers: any are judged.
  *
  * No call keeps a pointer, allocates, or has any state: calls from several threads may run at once.
- * Bytes of stack a call takes, compiled for x86-64 (bench/stack): search 33,952, convert 736,
+ * Bytes of stack a call takes, compiled for x86-64 (bench/stack): search 18,528, convert 736,
  * reliability 680, write 576, round 392, open 376, series 360, parallel 344, tally_remove 312,
  * tally_add 280, weights 56, tally_new 32, ageing 8, tally_score 8; memset and memcpy come to that.
  */
@@ -31,9 +31,9 @@ extern "C" {
 
 /* The version of this interface: the major grows where a call's parameters, its numbers, the study
  * file or the tally's words change. CHANGELOG.md says what a caller edits. */
-#define MEDLARBRACE_VERSION_MAJOR 5
+#define MEDLARBRACE_VERSION_MAJOR 4
 #define MEDLARBRACE_VERSION_MINOR 0
-#define MEDLARBRACE_VERSION "5.0"
+#define MEDLARBRACE_VERSION "4.0"
 
 /* Why a call refuses. 7 was given up to version 1.0 and is not used again. */
 enum {
@@ -50,7 +50,7 @@ enum {
     MEDLARBRACE_NOT_RECORD = 12,    /* not a front record */
     MEDLARBRACE_SIZES_DIFFER = 13,  /* two records of differing class sizes */
     MEDLARBRACE_CHANCE = 14,        /* a chance above 1,000,000, or an age above 30 */
-    MEDLARBRACE_OUTPUT_SHORT = 15,  /* an output slice too short; search: either of its two */
+    MEDLARBRACE_OUTPUT_SHORT = 15,  /* an output slice too short */
     MEDLARBRACE_TALLY_SHORT = 21,   /* a tally slice too short */
     MEDLARBRACE_TALLY_UNSOUND = 22, /* a tally that is not sound: no calls can have left it; also where the score is not the cells' sum */
     MEDLARBRACE_TALLY_SIZES = 23,   /* a tally of other class sizes than the record */
@@ -63,7 +63,6 @@ enum {
 /* Slices that suffice for any study. */
 #define MEDLARBRACE_HEADER_WORDS 7     /* of medlarbrace_open */
 #define MEDLARBRACE_RECORD_BYTES 133   /* 3 + 2 x 65 */
-#define MEDLARBRACE_ROUTES_BYTES 10465 /* 65 x 161: of medlarbrace_search, which asks for k x (N + 1) */
 #define MEDLARBRACE_TALLY_WORDS 4229   /* 4 + 65 x 65 */
 #define MEDLARBRACE_WEIGHTS_WORDS 65
 
@@ -82,22 +81,10 @@ uint32_t medlarbrace_open(const uint8_t *file, size_t file_len, uint32_t *header
  * Refusals: 1, 2, 3, 4, 5, 8, 32, 6, 9, 10. */
 uint32_t medlarbrace_round(const uint8_t *file, size_t file_len, uint64_t round, uint64_t *start, uint64_t *count);
 
-/* Searches a round: the record of its front into `record`, its length through `written`, and the route
- * behind each of its pairs into `routes`.
+/* Searches a round: the record of its front into `record`, its length through `written`.
  * A record is n1, n2, k and then k pairs of bytes, 3 + 2k bytes: 133 suffice.
- * The routes are k in number, in the order of the pairs and without gaps. Each is a count byte, 2 to N,
- * and then that many nodes, a byte each, from source to target: the next one begins 1 + count bytes on.
- * A route visits no node twice, and with some arc of the study at each of its steps, used in a direction
- * that its kind allows, its pair is the listed one: of these nodes and arcs the least position in class
- * 1's order and the least in class 2's, counted from 1, and n1 + 1 or n2 + 1 where none is of the class.
- * Which arcs these are is not told. Which of several such routes is shown is free: another version may
- * show another.
- * k x (N + 1) bytes are asked for, also where the routes take fewer; bytes past the routes stay. Where
- * the front is empty, routes_len may be 0.
- * Refusals: 1, 2, 3, 4, 5, 8, 32, 6, 9, 10, 11; 15 where record_len is under 3 + 2k or routes_len under
- * k x (N + 1). */
-uint32_t medlarbrace_search(const uint8_t *file, size_t file_len, uint64_t round, uint8_t *record, size_t record_len, uint8_t *routes, size_t routes_len,
-                            uint64_t *written);
+ * Refusals: 1, 2, 3, 4, 5, 8, 32, 6, 9, 10, 11, 15. */
+uint32_t medlarbrace_search(const uint8_t *file, size_t file_len, uint64_t round, uint8_t *record, size_t record_len, uint64_t *written);
 
 /* Writes a study file: node bytes (a class each; source and target may be of any), arc bytes (from,
  * to and kind of each), round bytes (round_count rounds, one after another), and the trailer; all
