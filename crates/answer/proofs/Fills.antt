@@ -1,8 +1,8 @@
 -- A call that fills a slice of bytes: a refusal by its tests, the step that delivers, and what a success says.
-use mathlib.Core.Path.{◌≡◌, sym, ap, ◌∙◌, subst}
+use mathlib.Core.Path.{◌≡◌, sym, ap, ◌∙◌}
 use mathlib.Core.Bool.{Bool, false, cond}
 use mathlib.Core.List.Memᴰ
-use mathlib.Core.List.{List, [], ◌∷◌, ◌++◌, append_assoc, append-nil}
+use mathlib.Core.List.{List, [], ◌∷◌, ◌++◌}
 use Prim.Native.Nat.{ℕ, ◌≤◌, ◌<◌}
 use borrow.Author.Tests.{lt-ltb, le-ltb}
 use lib.Dec.{T, ltb}
@@ -25,17 +25,11 @@ module _ (ts : List (ℕ × Bool)) (bytes out : List ℕ) where
   pub fill-refused : (n : ℕ) → outcome ts (0 ∷ []) ≡ refused n → Filled ts bytes out (refused n) out
   fill-refused n e = by_answer (refused n) (sym (outcome-refused ts ((15, ltb (length out) (length bytes)) ∷ []) (0 ∷ []) (length bytes ∷ []) n e))
 
-  -- these tests passed: what the others answer, and the slice that goes with it
-  pub fill-rest : (us : List (ℕ × Bool)) → outcome ts (0 ∷ []) ≡ success (0 ∷ []) → {b left : List ℕ} {a : Outcome} → b ≡ bytes → Filled us b out a left → Filled (ts ++ us) bytes out a left
-  fill-rest us e is d =
-      let test : List (ℕ × Bool) = (15, ltb (length out) (length bytes)) ∷ [] in
-      let f : fill_answer us bytes (length out) ≡ fill_answer (ts ++ us) bytes (length out) =
-      sym (ap (λ (l : List (ℕ × Bool)). outcome l (length bytes ∷ [])) (append_assoc ts us test) ∙ outcome-passed ts (us ++ test) (0 ∷ []) (length bytes ∷ []) e) in
-      (d.0 ∙ ap (λ x. fill_answer us x (length out)) is ∙ f, d.1 ∙ ap (λ x. fill_out us x out) is ∙ ap (λ (o : Outcome). filled o bytes out) f)
-
-  -- all of them: what the delivery of these bytes answers and leaves
+  -- the tests passed: what the delivery of these bytes answers and leaves
   pub fill-delivered : outcome ts (0 ∷ []) ≡ success (0 ∷ []) → {b left : List ℕ} {a : Outcome} → b ≡ bytes → Filled [] b out a left → Filled ts bytes out a left
-  fill-delivered e {left = left} {a = a} is d = subst (λ (l : List (ℕ × Bool)). Filled l bytes out a left) (append-nil ts) (fill-rest [] e is d)
+  fill-delivered e is d =
+      let f = sym (outcome-passed ts ((15, ltb (length out) (length bytes)) ∷ []) (0 ∷ []) (length bytes ∷ []) e) in
+      (d.0 ∙ ap (λ x. fill_answer [] x (length out)) is ∙ f, d.1 ∙ ap (λ x. fill_out [] x out) is ∙ ap (λ (o : Outcome). filled o bytes out) f)
 
   -- a success: every test passed, and the slice begins with the bytes
   pub fill-passed : (v : List ℕ) → fill_answer ts bytes (length out) ≡ success v → (t : ℕ × Bool) → t ∈ fill_tests ts bytes (length out) → t.1 ≡ false

@@ -92,8 +92,8 @@ module _ {r old : List ℕ} {n1 n2 : ℕ} (ok : Fitting old r n1 n2) where
   small = (omega (arith, good.small1, ok.one), omega (arith, good.small2, ok.two))
 
   -- the cells as rows, and as columns
-  room-for : (l1 l2 : ℕ) → l1 < n1 + 1 → l2 < width n2 → l1 * width n2 + l2 < length old
-  room-for l1 l2 h k = let b : l1 + 1 ≤ n1 + 1 = omega arith in omega (arith, ok.room, mul-le-mul_right (width n2) b)
+  room_for : (l1 l2 : ℕ) → l1 < n1 + 1 → l2 < width n2 → l1 * width n2 + l2 < length old
+  room_for l1 l2 h k = let b : l1 + 1 ≤ n1 + 1 = omega arith in omega (arith, ok.room, mul-le-mul_right (width n2) b)
 
   pub rows_lie : Lines old r false (n1 + 1) (width n2) (width n2) 1
   rows_lie =
@@ -101,7 +101,7 @@ module _ {r old : List ℕ} {n1 n2 : ℕ} (ok : Fitting old r n1 n2) where
         is = ok.is;
         few = (omega (arith, small), omega arith, omega (arith, small));
         within = within;
-        room = λ k i h b. omega (arith, room-for k i h b);
+        room = λ k i h b. omega (arith, room_for k i h b);
       }
 
   pub columns-lie : Lines old r true (width n2) (n1 + 1) 1 (width n2)
@@ -110,7 +110,7 @@ module _ {r old : List ℕ} {n1 n2 : ℕ} (ok : Fitting old r n1 n2) where
         is = ok.is;
         few = (omega (arith, small), omega arith, omega arith);
         within = turn-within (listed r) (n1 + 1) (width n2) within;
-        room = λ k i h b. omega (arith, room-for i k b h);
+        room = λ k i h b. omega (arith, room_for i k b h);
       }
 
   abbrev AtRow : ℕ → ℕ → ℕ → Type 0

@@ -29,7 +29,7 @@ use Rattle.reliability.specs.Calls.{rate_tests}
 use Rattle.network.specs.Walk.{visits}
 use Rattle.network.specs.Round.{Route, RoundHolds}
 use Rattle.network.proofs.Routes.{walk-arrives}
-use Rattle.search.specs.Search.{routes_test, routes_room, most_routes, search_bytes, search_tests, search_answer}
+use Rattle.search.specs.Search.{search_bytes}
 use Rattle.convert.specs.Convert.{convert_tests, convert_bytes}
 use Rattle.lines.specs.Text.{sizes_line, front_line, refused_line}
 use Rattle.lines.specs.Report.{by_answer, round_answer, round_lines, fresh_for, max_input, open_lines, report_opens, report_lines}
@@ -37,11 +37,11 @@ use Rattle.plan.specs.Plan.{Plan, searched, series, parallel, PlanHolds}
 use Rattle.plan.specs.Calls.{Searched}
 use Rattle.samples.specs.Table.{ten}
 use Rattle.kinds.specs.Kinds as call
-use Rattle.demands.specs.Terms.{First, None, RoundRecord, asked_for}
+use Rattle.demands.specs.Terms.{First, None, RoundRecord}
 use Rattle.demands.specs.Requests.{bad_end_classes, former_open_tests, former_check_tests, former_round_tests, former_given_tests, former_round_lines, former_open_lines, former_report_lines}
 use Rattle.demands.specs.Requests.{EndsNeverFail, EndsWork, PlanEndsWork, AtMostNode, Request1, failing_ring, FailingEnds}
-use Rattle.demands.proofs.Numbers.{first-is, none_is, answers, fills, fills_two}
-use Rattle.demands.proofs.Fronts.{record-one, round-record, asked_is}
+use Rattle.demands.proofs.Numbers.{first-is, none_is, answers, fills}
+use Rattle.demands.proofs.Fronts.{record-one, round-record}
 use Rattle.demands.proofs.Plenty.{searched-by, round-made, study-made, wrote_by}
 use Rattle.demands.proofs.One.{demand1}
 use Rattle.demands.proofs.Two.{demand2}
@@ -71,7 +71,7 @@ counted f r x s p m =
 
 -- ---- no list has the number 7
 report-7 : (f : List ℕ) → (report_opens f ≡ refused 7 → ⊥) × ((r : ℕ) → round_answer f r ≡ refused 7 → ⊥)
-report-7 f = (go (ltb max_input (length f)), λ r. fill-never 7 (search_tests f r most_routes) (search_bytes f r) longest tt)
+report-7 f = (go (ltb max_input (length f)), λ r. fill-never 7 (round_tests f r) (search_bytes f r) longest tt)
   where
     go : (b : Bool) → cond b (refused 1) (open_answer f) ≡ refused 7 → ⊥
     go true e = absurd (omega (arith, refused-same e))
@@ -104,16 +104,15 @@ module _ (f : List ℕ) (h : EndsNeverFail (study_of f)) where
   round_same : (r : ℕ) (v : List ℕ) → outcome (round_tests f r) v ≡ outcome (former_round_tests f r) v
   round_same r v = file-kept ((10, bad_number f r) ∷ (11, bad_orders f r) ∷ []) v
 
-  search-same : (r lent room : ℕ) → search_answer f r room lent ≡ fill_answer (former_round_tests f r ++ routes_test (routes_room f r) lent) (search_bytes f r) room
-  search-same r lent room =
-      file-kept ((10, bad_number f r) ∷ (11, bad_orders f r) ∷ (15, ltb lent (routes_room f r)) ∷ (15, ltb room (length (search_bytes f r))) ∷ []) (length (search_bytes f r) ∷ [])
+  search-same : (r : ℕ) (bytes : List ℕ) (room : ℕ) → fill_answer (round_tests f r) bytes room ≡ fill_answer (former_round_tests f r) bytes room
+  search-same r bytes room = file-kept ((10, bad_number f r) ∷ (11, bad_orders f r) ∷ (15, ltb room (length bytes)) ∷ []) (length bytes ∷ [])
 
   -- the report
   lines-kept : (t : List ℕ) (n1 k r : ℕ) → round_lines f t n1 k r ≡ former_round_lines f t n1 k r
   lines-kept t n1 zero r = refl
   lines-kept t n1 (suc k) r =
       go (round_answer f r) (front_line r (search_bytes f r)) (lines-kept t n1 k (suc r))
-      ∙ ap (λ (o : Outcome). by_answer o (λ n. refused_line n ∷ []) (λ v. front_line r (search_bytes f r) ∷ former_round_lines f t n1 k (suc r))) (search-same r most_routes longest)
+      ∙ ap (λ (o : Outcome). by_answer o (λ n. refused_line n ∷ []) (λ v. front_line r (search_bytes f r) ∷ former_round_lines f t n1 k (suc r))) (search-same r (search_bytes f r) longest)
     where
       go : (o : Outcome) (line : List ℕ) {ls ms : List (List ℕ)} → ls ≡ ms
           → by_answer o refused_line (λ v. line) ∷ by_answer o (λ n. []) (λ v. ls) ≡ by_answer o (λ n. refused_line n ∷ []) (λ v. line ∷ ms)
@@ -151,7 +150,7 @@ request1 =
       plan-holds-only = λ p x n1 n2 b s i j k l t. plan-ends p i j ((demand3.holds p x n1 n2 b s i j k l).0 t);
       opening-7 = λ c e. outcome-never 7 (open_tests (call.open_file c)) (open_values (call.open_file c)) tt (sym c.kept ∙ e);
       check-7 = λ c e. outcome-never 7 (check_tests (call.check_file c) (call.check_round c)) (0 ∷ []) tt (sym c.kept ∙ e);
-      search-7 = λ c e. fill-never 7 (search_tests (call.search_file c) (call.search_round c) (length (call.search_routes_lent c))) (search_bytes (call.search_file c) (call.search_round c)) (length (call.search_lent c)) tt (sym c.kept.0 ∙ e);
+      search-7 = λ c e. fill-never 7 (round_tests (call.search_file c) (call.search_round c)) (search_bytes (call.search_file c) (call.search_round c)) (length (call.search_lent c)) tt (sym c.kept.0 ∙ e);
       row-7 = λ c e. fill-never 7 (record_tests (call.series_first c) (call.series_second c)) (series_bytes (call.series_first c) (call.series_second c)) (length (call.series_lent c)) tt (sym c.kept.0 ∙ e);
       side-7 = λ c e. fill-never 7 (record_tests (call.parallel_first c) (call.parallel_second c)) (parallel_bytes (call.parallel_first c) (call.parallel_second c)) (length (call.parallel_lent c)) tt (sym c.kept.0 ∙ e);
       fresh-7 = λ c e. outcome-never 7 (new_tests (call.new_size1 c) (call.new_size2 c) (length (call.new_lent c))) (0 ∷ []) tt (sym c.kept.0 ∙ e);
@@ -182,9 +181,8 @@ request1 =
           let r = call.search_round c in
           let b = search_bytes f r in
           let room = length (call.search_lent c) in
-          let lent = length (call.search_routes_lent c) in
-          fills_two (former_round_tests f r) b (RoundRecord (study_of f) r) (asked_for (study_of f)) (routes_room f r) (asked_is f r) room lent (round-record-kept f h r)
-          (λ n x w. record-one w (round-record-kept f h r n)) (call.search_result c) (c.kept.0 ∙ search-same f h r lent room);
+          fills (former_round_tests f r) b (RoundRecord (study_of f) r) room (round-record-kept f h r) (λ n x w. record-one w (round-record-kept f h r n)) (call.search_result c)
+          (c.kept.0 ∙ search-same f h r b room);
       writer-kept = λ c h.
           let g = call.write_given c in
           let room = length (call.write_lent c) in
@@ -205,7 +203,7 @@ found-bytes = refl
 
 found : Searched file 0 front
 unfolding word_at
-found = subst (Searched file 0) found-bytes (searched-by file 0 ten ten 5 refl)
+found = subst (Searched file 0) found-bytes (searched-by file 0 ten 5 refl)
 
 -- where the round holds, by its record
 told : (a b : ℕ) → a ≤ 3 → b ≤ 3 → T (record_holds front a b) ↔ RoundHolds (study_of file) 0 a b

@@ -214,7 +214,7 @@ found-bytes = refl
 
 found : Searched file 0 front
 unfolding word_at
-found = subst (Searched file 0) found-bytes (searched-by file 0 ten ten 7 refl)
+found = subst (Searched file 0) found-bytes (searched-by file 0 ten 7 refl)
 
 -- where the round holds, by its record
 holds-told : (a b : ℕ) → a ≤ 1 → b ≤ 2 → T (record_holds front a b) ↔ RoundHolds (study_of file) 0 a b
@@ -238,5 +238,5 @@ failing-pipe =
       failed = (holds-told 1 2 (omega arith) (omega arith)).1;
       ring = subst (Converted old_ring_file) old-ring (converted-by old_ring_file ring_file 63 refl);
       as-old = (((none_is (convert_tests either) [] []).0 refl).0, refl);
-      as-new = subst (Searched either 0) new-either (searched-by either 0 ten ten 5 refl);
+      as-new = subst (Searched either 0) new-either (searched-by either 0 ten 5 refl);
     }

@@ -11,7 +11,7 @@ use Rattle.sections.specs.File.{trailer_at, trailer, elements_of, study_of}
 use Rattle.study.specs.Calls.{open_tests, open_values, check_tests, round_tests}
 use Rattle.study.proofs.Lookups.{round-part, round-found, lookup-refused}
 use Rattle.compose.specs.Compose.{series_bytes, parallel_bytes, record_tests}
-use Rattle.search.specs.Search.{routes_room, search_bytes}
+use Rattle.search.specs.Search.{search_bytes}
 use Rattle.soundness.specs.Tally.{tally_score}
 use Rattle.tally.specs.Calls.{new_tests, add_tests, remove_tests, score_tests}
 use Rattle.weights.specs.Calls.{weights_tests}
@@ -19,10 +19,10 @@ use Rattle.reliability.specs.Calls.{rate_tests}
 use Rattle.writer.specs.Writer.{study_bytes, given_tests}
 use Rattle.convert.specs.Convert.{convert_tests, convert_bytes}
 use Rattle.kinds.specs.Kinds as call
-use Rattle.demands.specs.Terms.{First, None, RoundRecord, asked_for, RowRecord, SideRecord}
+use Rattle.demands.specs.Terms.{First, None, RoundRecord, RowRecord, SideRecord}
 use Rattle.demands.specs.Demands.{Demand1}
-use Rattle.demands.proofs.Numbers.{first-is, none_is, answers, fills, fills_two}
-use Rattle.demands.proofs.Fronts.{record-one, round-record, asked_is, row-record, side-record}
+use Rattle.demands.proofs.Numbers.{first-is, none_is, answers, fills}
+use Rattle.demands.proofs.Fronts.{record-one, round-record, row-record, side-record}
 use Rattle.demands.proofs.Leaves as leave
 use Rattle.demands.proofs.Made as make
 use Rattle.kinds.proofs.Ends as end
@@ -56,8 +56,8 @@ demand1 =
       search = λ c.
           let f = call.search_file c in
           let r = call.search_round c in
-          fills_two (round_tests f r) (search_bytes f r) (RoundRecord (study_of f) r) (asked_for (study_of f)) (routes_room f r) (asked_is f r) (length (call.search_lent c))
-          (length (call.search_routes_lent c)) (round-record f r) (λ n x h. record-one h (round-record f r n)) (call.search_result c) c.kept.0;
+          fills (round_tests f r) (search_bytes f r) (RoundRecord (study_of f) r) (length (call.search_lent c)) (round-record f r) (λ n x h. record-one h (round-record f r n))
+          (call.search_result c) c.kept.0;
       row = λ c.
           let y = call.series_first c in
           let z = call.series_second c in
@@ -83,12 +83,11 @@ demand1 =
       opening-ignores = λ c d s. c.kept ∙ open-same s ∙ sym d.kept;
       check-ignores = λ c d s e. c.kept ∙ check-same s e ∙ sym d.kept;
       lookup-ignores = λ c d s e. c.kept.0 ∙ lookup-same s e ∙ sym d.kept.0;
-      search-ignores = λ c d s e l k. (c.kept.0 ∙ search-same s e (ap length l) k ∙ sym d.kept.0, c.kept.1.0 ∙ search-out-same s e k l ∙ sym d.kept.1.0);
+      search-ignores = λ c d s e l. (c.kept.0 ∙ search-same s e (ap length l) ∙ sym d.kept.0, c.kept.1 ∙ search-out-same s e l ∙ sym d.kept.1);
       converter-ignores = λ c d s l. (c.kept.0 ∙ convert-same s (ap length l) ∙ sym d.kept.0, c.kept.1 ∙ convert-out-same s l ∙ sym d.kept.1);
       report-ignores = λ f g s. report-same s;
       apart = refused-apart;
       search-leaves = leave.search-leaves;
-      routes-leaves = leave.routes-leaves;
       row-leaves = leave.row-leaves;
       side-leaves = leave.side-leaves;
       fresh-leaves = leave.fresh-leaves;

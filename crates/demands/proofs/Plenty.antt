@@ -4,7 +4,6 @@ use mathlib.Core.Bool.{Bool, false, ◌&&◌, ◌||◌}
 use mathlib.Core.List.Memᴰ
 use mathlib.Core.List.{List, [], ◌∷◌}
 use Prim.Native.Nat.{ℕ, ◌≤◌}
-use native.Mathlib.Nat.{le_of_eq}
 use native.Mathlib.Omega.{arith}
 use borrow.Author.Tests.{le-ltb}
 use lib.Dec.{T, ltb, eqb, eqb_refl}
@@ -19,7 +18,7 @@ use Rattle.compose.specs.Compose.{series_bytes, parallel_bytes, same_sizes, reco
 use Rattle.sections.specs.File.{study_of}
 use Rattle.network.specs.Round.{study_size1, study_size2}
 use Rattle.study.specs.Calls.{round_tests}
-use Rattle.search.specs.Search.{routes_test, routes_room, search_bytes, search_tests, search_answer, search_out}
+use Rattle.search.specs.Search.{search_bytes, search_answer, search_out}
 use Rattle.soundness.specs.Tally.{words}
 use Rattle.tally.specs.Calls.{new_answer, new_out, add_answer, add_out, remove_out}
 use Rattle.tally.specs.Steps.{Fits}
@@ -41,17 +40,17 @@ use Rattle.demands.proofs.Made.{search-made, row_made, side-made, fresh-made, ad
 at_once : (ts : List (ℕ × Bool)) (bytes s left : List ℕ) (n : ℕ) (a : Outcome) → a ≡ fill_answer ts bytes (length s) → left ≡ fill_out ts bytes s → fill_answer ts bytes (length s) ≡ success (n ∷ []) → Handed a left bytes
 at_once ts bytes s left n a e l o = record { size = n; success-is = e ∙ o; slice = left; through = none; part-is = sym (ap (take n) l ∙ fill-wrote ts bytes s n o) }
 
-pub searched-by : (f : List ℕ) (r : ℕ) (s t : List ℕ) (n : ℕ) → search_answer f r (length s) (length t) ≡ success (n ∷ []) → Searched f r (search_bytes f r)
-searched-by f r s t n o =
-    let m = search-made f r s t in
+pub searched-by : (f : List ℕ) (r : ℕ) (s : List ℕ) (n : ℕ) → search_answer f r (length s) ≡ success (n ∷ []) → Searched f r (search_bytes f r)
+searched-by f r s n o =
+    let m = search-made f r s in
     let c = m.0 in
-    let a : call.search_result c ≡ search_answer f r (length s) (length t) = rw (m.1, m.2, m.3, m.4) at c.kept.0 in
-    let l : call.search_left c ≡ search_out f r (length t) s = rw (m.1, m.2, m.3, m.4) at c.kept.1.0 in
+    let a : call.search_result c ≡ search_answer f r (length s) = rw (m.1, m.2, m.3) at c.kept.0 in
+    let l : call.search_left c ≡ search_out f r s = rw (m.1, m.2, m.3) at c.kept.1 in
     record {
       made = c;
       file-is = m.1;
       round_is = m.2;
-      handed = at_once (search_tests f r (length t)) (search_bytes f r) s (call.search_left c) n (call.search_result c) a l o;
+      handed = at_once (round_tests f r) (search_bytes f r) s (call.search_left c) n (call.search_result c) a l o;
     }
 
 pub row_by : (y z s : List ℕ) (n : ℕ) → series_answer y z (length s) ≡ success (n ∷ []) → RowJoined y z (series_bytes y z)
@@ -137,12 +136,7 @@ just-fits : (ts : List (ℕ × Bool)) (b : List ℕ) → None ts → fill_answer
 just-fits ts b n = (none_is (fill_tests ts b (length b)) (length b ∷ []) (length b ∷ [])).1 ((none-append ts ((15, ltb (length b) (length b)) ∷ [])).1 (n, ((fits (length b) (length b)).1 (omega arith), tt)), refl)
 
 pub round-made : (f : List ℕ) (r : ℕ) → None (round_tests f r) → Searched f r (search_bytes f r)
-round-made f r n =
-    let b = search_bytes f r in
-    let t : List ℕ = replicate (routes_room f r) 0 in
-    let g : routes_room f r ≤ length t = le_of_eq (sym (length-replicate {A = ℕ} (routes_room f r) 0)) in
-    searched-by f r b t (length b)
-    (just-fits (search_tests f r (length t)) b ((none-append (round_tests f r) (routes_test (routes_room f r) (length t))).1 (n, ((fits (length t) (routes_room f r)).1 g, tt))))
+round-made f r n = let b = search_bytes f r in searched-by f r b (length b) (just-fits (round_tests f r) b n)
 
 pub study-made : (g : Given) → None (given_tests g) → Wrote g (study_bytes g)
 study-made g n = let b = study_bytes g in wrote_by g b (length b) (just-fits (given_tests g) b n)

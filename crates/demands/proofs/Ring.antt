@@ -6,15 +6,14 @@ use Prim.Native.Nat.{ℕ}
 use native.Mathlib.Omega.{arith}
 use lib.ListN.{length}
 use Rattle.laws.specs.Members.{◌∈◌, here, there, any-in}
-use Rattle.answer.specs.Outcome.{Outcome, success, refused}
+use Rattle.answer.specs.Outcome.{success, refused}
 use Rattle.front.specs.Pair.{pair_of, same}
 use Rattle.slices.specs.Bytes.{word_at}
 use Rattle.record.specs.Record.{listed}
 use Rattle.compose.specs.Compose.{series_bytes, parallel_bytes}
-use Rattle.search.specs.Search.{search_bytes, search_answer, search_out, RoutesLeft}
-use Rattle.samples.proofs.Routes.{sample-routes}
+use Rattle.search.specs.Search.{search_bytes, search_answer, search_out}
 use Rattle.tally.specs.Calls.{new_out}
-use Rattle.samples.specs.Table.{ring_with, ring_file, ring, ten, twenty_one, twenty, ring_tally, table}
+use Rattle.samples.specs.Table.{ring_with, ring_file, ring, ten, eight, ring_tally, table}
 use Rattle.runs.specs.Arguments.{u8}
 use Rattle.runs.specs.Run.{Holds, Ends}
 use Rattle.runs.proofs.General.{told}
@@ -23,7 +22,7 @@ use Rattle.kinds.specs.Kinds as call
 use Rattle.plan.specs.Calls.{Vain, search, Searched, RowJoined, SideJoined, Built}
 use Rattle.survival.specs.Calls.{Tallied, AllSearched, Rating}
 use Rattle.demands.specs.Terms.{SameSections, Wrote}
-use Rattle.demands.specs.Ring.{ring_plan, ring_routes_out, ring_rounds, RingClaims}
+use Rattle.demands.specs.Ring.{ring_plan, ring_rounds, RingClaims}
 use Rattle.demands.proofs.Made.{search-made}
 use Rattle.demands.proofs.One.{demand1}
 use Rattle.demands.proofs.Plenty.{searched-by, row_by, side-by, wrote_by, begun-by, added-by, rating-by}
@@ -35,7 +34,7 @@ unfolding word_at
 ring-bytes = refl
 
 found : Searched ring_file 0 ring
-found = subst (Searched ring_file 0) ring-bytes (searched-by ring_file 0 ten twenty_one 9 table.r2-answer)
+found = subst (Searched ring_file 0) ring-bytes (searched-by ring_file 0 ten 9 table.r2-answer)
 
 outside : SameSections (1 ∷ ring_file) (2 ∷ ring_file)
 unfolding word_at
@@ -65,49 +64,37 @@ built = (ring, ring, found, (ring, ring, found, found, ring-side), ring-row)
 
 -- ---- the runs
 -- a run answers, and leaves in its slice, what the definitions say of its arguments
-run-answer : (f : List ℕ) (r : ℕ) (s t : List ℕ) (e : Ends [] (call.search_run f r s t)) → call.search_result e.made ≡ search_answer f r (length s) (length t)
-run-answer f r s t e = (told (call.search_run f r s t) e).kept.0
+run-answer : (f : List ℕ) (r : ℕ) (s : List ℕ) (e : Ends [] (call.search_run f r s)) → call.search_result e.made ≡ search_answer f r (length s)
+run-answer f r s e = (told (call.search_run f r s) e).kept.0
 
-run-left : (f : List ℕ) (r : ℕ) (s t : List ℕ) (e : Ends [] (call.search_run f r s t)) → Holds e.memory u8 3 0 (search_out f r (length t) s)
-run-left f r s t e = let d = told (call.search_run f r s t) e in subst (Holds e.memory u8 3 0) d.kept.1.0 d.memory-is.1.0
+run-left : (f : List ℕ) (r : ℕ) (s : List ℕ) (e : Ends [] (call.search_run f r s)) → Holds e.memory u8 3 0 (search_out f r s)
+run-left f r s e = let d = told (call.search_run f r s) e in subst (Holds e.memory u8 3 0) d.kept.1 d.memory-is.1.0
 
--- and in its second slice the one thing that they allow
-run-routes : (f : List ℕ) (r : ℕ) (s t : List ℕ) (e : Ends [] (call.search_run f r s t)) (y : List ℕ)
-    → ((new : List ℕ) → RoutesLeft f r (search_answer f r (length s) (length t)) t new → new ≡ y) → Holds e.memory u8 4 0 y
-run-routes f r s t e y only = let d = told (call.search_run f r s t) e in subst (Holds e.memory u8 4 0) (only _ d.kept.1.1) d.memory-is.1.1.0
-
-ring-routes : (new : List ℕ) → RoutesLeft ring_file 0 (search_answer ring_file 0 10 21) twenty_one new → new ≡ ring_routes_out
-ring-routes new h = sample-routes.r2-only twenty_one new (subst (λ (o : Outcome). RoutesLeft ring_file 0 o twenty_one new) table.r2-answer h)
-
-ran : ∥ ((e : Ends [] (call.search_run ring_file 0 ten twenty_one)) × (call.search_result e.made ≡ success (9 ∷ []))
-    × Holds e.memory u8 3 0 (2 ∷ 2 ∷ 3 ∷ 3 ∷ 1 ∷ 2 ∷ 2 ∷ 1 ∷ 3 ∷ 9 ∷ []) × Holds e.memory u8 4 0 ring_routes_out) ∥₁
+ran : ∥ ((e : Ends [] (call.search_run ring_file 0 ten)) × (call.search_result e.made ≡ success (9 ∷ [])) × Holds e.memory u8 3 0 (2 ∷ 2 ∷ 3 ∷ 3 ∷ 1 ∷ 2 ∷ 2 ∷ 1 ∷ 3 ∷ 9 ∷ [])) ∥₁
 unfolding all_bytes
 ran =
-    ∥∥₁_map ((demand1.search-ends ring_file 0 ten twenty_one).ends [] tt ((bytes-by ring_file tt, omega arith), (omega arith, ((bytes-by ten tt, omega arith), ((bytes-by twenty_one tt, omega arith), tt))))) (λ e.
-    (e, run-answer ring_file 0 ten twenty_one e ∙ table.r2-answer, subst (Holds e.memory u8 3 0) table.r2-out (run-left ring_file 0 ten twenty_one e), run-routes ring_file 0 ten twenty_one e ring_routes_out ring-routes))
+    ∥∥₁_map ((demand1.search-ends ring_file 0 ten).ends [] tt ((bytes-by ring_file tt, omega arith), (omega arith, ((bytes-by ten tt, omega arith), tt)))) (λ e.
+    (e, run-answer ring_file 0 ten e ∙ table.r2-answer, subst (Holds e.memory u8 3 0) table.r2-out (run-left ring_file 0 ten e)))
 
-ran-short : ∥ ((e : Ends [] (call.search_run ring_file 0 ten twenty)) × (call.search_result e.made ≡ refused 15)
-    × Holds e.memory u8 2 0 ring_file × Holds e.memory u8 3 0 ten × Holds e.memory u8 4 0 twenty) ∥₁
+ran-short : ∥ ((e : Ends [] (call.search_run ring_file 0 eight)) × (call.search_result e.made ≡ refused 15) × Holds e.memory u8 2 0 ring_file × Holds e.memory u8 3 0 eight) ∥₁
 unfolding all_bytes
 ran-short =
-    ∥∥₁_map ((demand1.search-ends ring_file 0 ten twenty).ends [] tt ((bytes-by ring_file tt, omega arith), (omega arith, ((bytes-by ten tt, omega arith), ((bytes-by twenty tt, omega arith), tt))))) (λ e.
-    let a = run-answer ring_file 0 ten twenty e ∙ table.r2-routes-short in
-    let k = demand1.search-keeps ring_file 0 ten twenty [] e (15, a) in
-    (e, a, k.0, k.1.0, k.1.1.0))
+    ∥∥₁_map ((demand1.search-ends ring_file 0 eight).ends [] tt ((bytes-by ring_file tt, omega arith), (omega arith, ((bytes-by eight tt, omega arith), tt)))) (λ e.
+    let a = run-answer ring_file 0 eight e ∙ table.r2-short in
+    let k = demand1.search-keeps ring_file 0 eight [] e (15, a) in
+    (e, a, k.0, k.1.0))
 
 -- no bytes are no study: number 1
 vain : (s : List ℕ) → Vain s s
-vain s = go (search-made [] 0 s s)
+vain s = go (search-made [] 0 s)
   where
-    answer : (n m : ℕ) → search_answer [] 0 n m ≡ refused 1
-    answer n m = refl
+    answer : (n : ℕ) → search_answer [] 0 n ≡ refused 1
+    answer n = refl
 
-    go : (c : call.SearchCall) × (call.search_file c ≡ []) × (call.search_round c ≡ 0) × (call.search_lent c ≡ s) × (call.search_routes_lent c ≡ s) → Vain s s
+    go : (c : call.SearchCall) × (call.search_file c ≡ []) × (call.search_round c ≡ 0) × (call.search_lent c ≡ s) → Vain s s
     go m =
         let c = m.0 in
-        let room = length (call.search_lent c) in
-        let lent = length (call.search_routes_lent c) in
-        let a : call.search_result c ≡ refused 1 = c.kept.0 ∙ ap₂ (λ f r. search_answer f r room lent) m.1 m.2 ∙ answer room lent in
+        let a : call.search_result c ≡ refused 1 = c.kept.0 ∙ ap₂ (λ f r. search_answer f r (length (call.search_lent c))) m.1 m.2 ∙ answer (length (call.search_lent c)) in
         subst (λ l. Vain s l) ((demand1.search-leaves c).refusal 1 a ∙ m.3) (subst (λ l. Vain l (call.search_left c)) m.3 (search c 1 a))
 
 abbrev spare : List ℕ

@@ -32,8 +32,8 @@ use Rattle.survival.specs.Counts.{Count, HoldsWith}
 use Rattle.kinds.specs.Kinds as call
 use Rattle.runs.specs.Arguments.{Block}
 use Rattle.runs.specs.Run.{at, Ends, AlwaysEnds, Keeps}
-use Rattle.demands.specs.Terms.{First, None, Refused, Answers, Fills, FillsTwo, Leaves, SameSections, SameOldSections, Undominated, PairOf, OfRoute}
-use Rattle.demands.specs.Terms.{RoundRecord, RoundRoutes, asked_for, RowRecord, SideRecord, FreshTally, RaisedTally, LoweredTally, PlanPasses, Wrote}
+use Rattle.demands.specs.Terms.{First, None, Refused, Answers, Fills, Leaves, SameSections, SameOldSections, Undominated, PairOf, OfRoute}
+use Rattle.demands.specs.Terms.{RoundRecord, RowRecord, SideRecord, FreshTally, RaisedTally, LoweredTally, PlanPasses, Wrote}
 
 pub record Demand1 : Type 0 where
   -- "If a study, an order, a front, a tally or a chance is bad, or lent space is too short, the call gives the one number that document 01 fixes":
@@ -48,10 +48,9 @@ pub record Demand1 : Type 0 where
   pub lookup-bad : (c : call.LookupCall) (n : ℕ) → First (check_tests (call.lookup_file c) (call.lookup_round c)) n → call.lookup_result c ≡ []
   -- in both cases a part of the caller's file: in its block of memory, and within its bounds
   pub lookup-inside : (c : call.LookupCall) → Inside (call.lookup_result_slice c) (call.lookup_file_slice c)
-  -- search (lookup's, 11, 15): the length of the round's front record; its second slice is to have k × (N + 1) bytes (S-6)
+  -- search (lookup's, 11, 15): the length of the round's front record
   pub search : (c : call.SearchCall) → let f = call.search_file c in let r = call.search_round c in
-      FillsTwo (round_tests f r) (RoundRecord (study_of f) r) (asked_for (study_of f)) (length (call.search_lent c)) (length (call.search_routes_lent c))
-      (call.search_result c)
+      Fills (round_tests f r) (RoundRecord (study_of f) r) (length (call.search_lent c)) (call.search_result c)
   -- row and side (12, 13, 15): the length of the record of the two records' row or side
   pub row : (c : call.SeriesCall) → let y = call.series_first c in let z = call.series_second c in
       Fills (record_tests y z) (RowRecord y z) (length (call.series_lent c)) (call.series_result c)
@@ -86,8 +85,7 @@ pub record Demand1 : Type 0 where
   pub lookup-ignores : (c d : call.LookupCall) → SameSections (call.lookup_file c) (call.lookup_file d) → call.lookup_round c ≡ call.lookup_round d
       → call.lookup_result c ≡ call.lookup_result d
   pub search-ignores : (c d : call.SearchCall) → SameSections (call.search_file c) (call.search_file d) → call.search_round c ≡ call.search_round d
-      → call.search_lent c ≡ call.search_lent d → length (call.search_routes_lent c) ≡ length (call.search_routes_lent d)
-      → (call.search_result c ≡ call.search_result d) × (call.search_left c ≡ call.search_left d)
+      → call.search_lent c ≡ call.search_lent d → (call.search_result c ≡ call.search_result d) × (call.search_left c ≡ call.search_left d)
   pub converter-ignores : (c d : call.ConvertCall) → SameOldSections (call.convert_file c) (call.convert_file d) → call.convert_lent c ≡ call.convert_lent d
       → (call.convert_result c ≡ call.convert_result d) × (call.convert_left c ≡ call.convert_left d)
   -- and in the report: its lines, of which its text is made
@@ -97,9 +95,6 @@ pub record Demand1 : Type 0 where
   -- "and changes no lent memory": a refused call leaves the slice that it was lent as it was; a successful one leaves what is past what it wrote
   pub search-leaves : (c : call.SearchCall) →
       Leaves (RoundRecord (study_of (call.search_file c)) (call.search_round c)) (call.search_result c) (call.search_lent c) (call.search_left c)
-  -- so does the search with its second slice: its routes in front, which of several is free
-  pub routes-leaves : (c : call.SearchCall) →
-      Leaves (RoundRoutes (study_of (call.search_file c)) (call.search_round c)) (call.search_result c) (call.search_routes_lent c) (call.search_routes_left c)
   pub row-leaves : (c : call.SeriesCall) →
       Leaves (RowRecord (call.series_first c) (call.series_second c)) (call.series_result c) (call.series_lent c) (call.series_left c)
   pub side-leaves : (c : call.ParallelCall) →
@@ -130,8 +125,8 @@ pub record Demand1 : Type 0 where
   pub opening-made : (f : List ℕ) → (c : call.OpenCall) × (call.open_file c ≡ f)
   pub check-made : (f : List ℕ) (r : ℕ) → (c : call.CheckCall) × (call.check_file c ≡ f) × (call.check_round c ≡ r)
   pub lookup-made : (f : List ℕ) (r : ℕ) → (c : call.LookupCall) × (call.lookup_file c ≡ f) × (call.lookup_round c ≡ r)
-  pub search-made : (f : List ℕ) (r : ℕ) (s t : List ℕ)
-      → (c : call.SearchCall) × (call.search_file c ≡ f) × (call.search_round c ≡ r) × (call.search_lent c ≡ s) × (call.search_routes_lent c ≡ t)
+  pub search-made : (f : List ℕ) (r : ℕ) (s : List ℕ)
+      → (c : call.SearchCall) × (call.search_file c ≡ f) × (call.search_round c ≡ r) × (call.search_lent c ≡ s)
   pub row_made : (y z s : List ℕ) → (c : call.SeriesCall) × (call.series_first c ≡ y) × (call.series_second c ≡ z) × (call.series_lent c ≡ s)
   pub side-made : (y z s : List ℕ) → (c : call.ParallelCall) × (call.parallel_first c ≡ y) × (call.parallel_second c ≡ z) × (call.parallel_lent c ≡ s)
   pub fresh-made : (n1 n2 : ℕ) (s : List ℕ) → (c : call.NewCall) × (call.new_size1 c ≡ n1) × (call.new_size2 c ≡ n2) × (call.new_lent c ≡ s)
@@ -148,7 +143,7 @@ pub record Demand1 : Type 0 where
   pub opening-ends : (f : List ℕ) → AlwaysEnds (call.open_run f)
   pub check-ends : (f : List ℕ) (r : ℕ) → AlwaysEnds (call.check_run f r)
   pub lookup-ends : (f : List ℕ) (r : ℕ) → AlwaysEnds (call.lookup_run f r)
-  pub search-ends : (f : List ℕ) (r : ℕ) (s t : List ℕ) → AlwaysEnds (call.search_run f r s t)
+  pub search-ends : (f : List ℕ) (r : ℕ) (s : List ℕ) → AlwaysEnds (call.search_run f r s)
   pub row_ends : (y z s : List ℕ) → AlwaysEnds (call.series_run y z s)
   pub side-ends : (y z s : List ℕ) → AlwaysEnds (call.parallel_run y z s)
   pub fresh-ends : (n1 n2 : ℕ) (s : List ℕ) → AlwaysEnds (call.new_run n1 n2 s)
@@ -164,7 +159,7 @@ pub record Demand1 : Type 0 where
   pub opening-keeps : (f : List ℕ) → Keeps (call.open_run f) (λ c. Unit)
   pub check-keeps : (f : List ℕ) (r : ℕ) → Keeps (call.check_run f r) (λ c. Unit)
   pub lookup-keeps : (f : List ℕ) (r : ℕ) → Keeps (call.lookup_run f r) (λ c. Unit)
-  pub search-keeps : (f : List ℕ) (r : ℕ) (s t : List ℕ) → Keeps (call.search_run f r s t) (λ c. Refused (call.search_result c))
+  pub search-keeps : (f : List ℕ) (r : ℕ) (s : List ℕ) → Keeps (call.search_run f r s) (λ c. Refused (call.search_result c))
   pub row_keeps : (y z s : List ℕ) → Keeps (call.series_run y z s) (λ c. Refused (call.series_result c))
   pub side-keeps : (y z s : List ℕ) → Keeps (call.parallel_run y z s) (λ c. Refused (call.parallel_result c))
   pub fresh_keeps : (n1 n2 : ℕ) (s : List ℕ) → Keeps (call.new_run n1 n2 s) (λ c. Refused (call.new_result c))
@@ -224,7 +219,7 @@ pub record Demand2 : Type 0 where
       → (call.check_round c < g.total → call.check_result c ≡ success (0 ∷ [])) × (g.total ≤ call.check_round c → call.check_result c ≡ refused 10)
   pub looks-up : (g : Given) (f : List ℕ) → Wrote g f → (c : call.LookupCall) → call.lookup_file c ≡ f → call.lookup_round c < g.total
       → call.lookup_result c ≡ part_at (call.lookup_round c * round_size (given_elements g)) (round_size (given_elements g)) g.rounds
-  -- and the search of a round is never refused but for its slices, and finds the front of the study that was given
+  -- and the search of a round is never refused but for its slice, and finds the front of the study that was given
   pub searches : (g : Given) (f : List ℕ) → Wrote g f → (c : call.SearchCall) → call.search_file c ≡ f → call.search_round c < g.total
       → (n : ℕ) → call.search_result c ≡ refused n → n ≡ 15
   pub finds : (g : Given) (f : List ℕ) → Wrote g f → (r : ℕ) (x : List ℕ) → Searched f r x → RoundRecord (meant g) r x

@@ -1,27 +1,23 @@
 -- THE REQUESTS OF DOCUMENT 02, closed: one record each, in 02's order, each field under the sentence that it states; in front of a record the words that it
 -- needs beside the page's, behind it an instance. What a request changes of the three demands stands in Demands.antt. Proofs: proofs/ (request1 to
--- request6; instances failing-ends, taken-back, edge-ages, failing-pipe, standing-score, shown-routes).
-use Rattle.std.specs.Prelude.{◌≡◌, ◌↔◌, ◌⊎◌, Bool, not, ◌||◌, cond, List, [], ◌∷◌, ◌++◌, map, ℕ, zero, suc, ◌+◌, ◌-◌, ◌*◌, ◌%◌, ◌≤◌, ◌<◌, T, eqb, ltb, length, get_or, take, drop}
+-- request5; instances failing-ends, taken-back, edge-ages, failing-pipe, standing-score).
+use Rattle.std.specs.Prelude.{◌≡◌, ◌↔◌, ◌⊎◌, Bool, not, ◌||◌, cond, List, [], ◌∷◌, ◌++◌, map, ℕ, zero, suc, ◌+◌, ◌-◌, ◌*◌, ◌%◌, ◌≤◌, ◌<◌, T, eqb, ltb, length, get_or, take}
 use Rattle.limits.specs.Limits.{arc_size, max_rounds, max_class}
 use Rattle.laws.specs.Members.{◌∈◌, keep}
-use Rattle.laws.specs.Pairwise.{Pairwise}
-use Rattle.laws.specs.Each.{Each}
 use Rattle.laws.specs.Reorder.{With, Reordered}
 use Rattle.answer.specs.Outcome.{Outcome, success, refused, outcome, fill_answer}
 use Rattle.front.specs.declared.Pair.{Pair}
-use Rattle.front.specs.Pair.{pair_of}
 use Rattle.record.specs.Record.{listed, record_holds, longest}
 use Rattle.orders.specs.Order.{count, members, members_from, place_in_class}
 use Rattle.slices.specs.Bytes.{part_at}
 use Rattle.parts.specs.Study.{Entry, Arc, Study, entry_class, study_arcs, entries_from, study_elements, arc_element, round_size}
 use Rattle.parts.specs.Tests.{bad_classes, bad_arcs, bad_kinds, bad_sizes, part_tests}
 use Rattle.sections.specs.File.{trailer_at, trailer, nodes_of, arcs_of, elements_of, study_of}
-use Rattle.study.specs.Calls.{bad_rounds, bad_number, bad_orders, trailer_tests, open_tests, round_tests, opened_rounds, opened_size1, opened_size2, open_values}
+use Rattle.study.specs.Calls.{bad_rounds, bad_number, bad_orders, trailer_tests, open_tests, opened_rounds, opened_size1, opened_size2, open_values}
 use Rattle.writer.specs.Writer.{Given, given, meant, study_bytes, bad_round_bytes, bad_given_orders, count_tests}
-use Rattle.network.specs.Walk.{Walk, Differ, visits}
+use Rattle.network.specs.Walk.{Walk, visits}
 use Rattle.network.specs.Round.{study_size1, study_size2, round_at, Route, element_works, RoundHolds}
-use Rattle.network.specs.Routes.{route_bytes}
-use Rattle.search.specs.Search.{routes_test, routes_room, most_routes, search_bytes}
+use Rattle.search.specs.Search.{search_bytes}
 use Rattle.convert.specs.Old.{old_search_bytes}
 use Rattle.convert.specs.Convert.{converted, convert_tests, convert_bytes}
 use Rattle.chance.specs.Chance.{Grows, Near}
@@ -36,8 +32,7 @@ use Rattle.survival.specs.Counts.{Count, HoldsWith}
 use Rattle.samples.specs.Table.{ring_arcs, ring_file, old_ring_file, ring}
 use Rattle.runs.specs.Run.{Ends}
 use Rattle.kinds.specs.Kinds as call
-use Rattle.demands.specs.Terms.{First, None, Answers, Fills, FillsTwo, class_of, position_in}
-use Rattle.demands.specs.Terms.{first_order, second_order, route_elements, PairOf, RouteOf, RoundRecord, asked_for}
+use Rattle.demands.specs.Terms.{First, None, Answers, Fills, class_of, position_in, first_order, second_order, route_elements, PairOf, RoundRecord}
 use Rattle.demands.specs.Terms.{LoweredTally, Wrote, Converted}
 
 -- ======== S-1 ENDS THAT CAN FAIL
@@ -76,7 +71,7 @@ former_report_opens f = cond (ltb max_input (length f)) (refused 1) (outcome (fo
 abbrev pub former_round_lines : List ℕ → List ℕ → ℕ → ℕ → ℕ → List (List ℕ)
 former_round_lines f t n1 zero r = count_lines (n1 + 1) 0 (tally_after f t r)
 former_round_lines f t n1 (suc k) r =
-    by_answer (fill_answer (former_round_tests f r ++ routes_test (routes_room f r) most_routes) (search_bytes f r) longest)
+    by_answer (fill_answer (former_round_tests f r) (search_bytes f r) longest)
     (λ n. refused_line n ∷ []) (λ v. front_line r (search_bytes f r) ∷ former_round_lines f t n1 k (suc r))
 
 abbrev pub former_open_lines : List ℕ → List ℕ → List (List ℕ)
@@ -150,8 +145,7 @@ pub record Request1 : Type 0 where
   pub lookup-bad-kept : (c : call.LookupCall) (n : ℕ) → let f = call.lookup_file c in EndsNeverFail (study_of f)
       → First (former_check_tests f (call.lookup_round c)) n → call.lookup_result c ≡ []
   pub search-kept : (c : call.SearchCall) → let f = call.search_file c in let r = call.search_round c in EndsNeverFail (study_of f)
-      → FillsTwo (former_round_tests f r) (RoundRecord (study_of f) r) (asked_for (study_of f)) (length (call.search_lent c)) (length (call.search_routes_lent c))
-      (call.search_result c)
+      → Fills (former_round_tests f r) (RoundRecord (study_of f) r) (length (call.search_lent c)) (call.search_result c)
   pub writer-kept : (c : call.WriteCall) → let g = call.write_given c in EndsNeverFail (meant g)
       → Fills (former_given_tests g) (λ x. x ≡ study_bytes g) (length (call.write_lent c)) (call.write_result c)
   pub report-kept : (f : List ℕ) → EndsNeverFail (study_of f) → report_lines f ≡ former_report_lines f
@@ -421,77 +415,3 @@ pub record StandingScore : Type 0 where
   pub take-22 : (c : call.RemoveCall) → call.remove_record c ≡ bears_first → call.remove_lent c ≡ wrong_score → call.remove_result c ≡ refused 22
   pub rate-22 : (c : call.RateCall) → call.rate_tally c ≡ wrong_score → call.rate_chance1 c ≡ 0 → call.rate_chance2 c ≡ 0 → call.rate_result c ≡ refused 22
   pub wrong : ScoreIs wrong_score (success (2 ∷ []))
-
--- ======== S-6 THE ROUTE BEHIND A PAIR
--- That 15 comes by either slice, that a refusal leaves both, that the length is the record's, and that the call can be made on every input and ends, is in
--- Demand1; which of several routes is shown is free. `RouteOf` (Terms.antt): these nodes are a route of that pair. Here is what a planner reads.
--- k routes read off bytes: a count, then that many nodes, and so on
-abbrev pub read_routes : ℕ → List ℕ → List (List ℕ)
-read_routes zero bytes = []
-read_routes (suc k) [] = []
-read_routes (suc k) (n ∷ bytes) = take n bytes ∷ read_routes k (drop n bytes)
-
--- one study arc for each step from a node to the next
-abbrev pub Along : Study → List ℕ → List Arc → Type 0
-Along st [] ks = ⊥
-Along st (v ∷ []) [] = Unit
-Along st (v ∷ []) (k ∷ ks) = ⊥
-Along st (u ∷ v ∷ vs) [] = ⊥
-Along st (u ∷ v ∷ vs) (k ∷ ks) = (k ∈ study_arcs st) × (k.from ≡ u) × (k.to ≡ v) × Along st (v ∷ vs) ks
-
--- a search succeeded with n bytes: its record, and the routes read off its second slice
-abbrev pub found_record : call.SearchCall → ℕ → List ℕ
-found_record c n = take n (call.search_left c)
-
-abbrev pub found_routes : call.SearchCall → ℕ → List (List ℕ)
-found_routes c n = read_routes (length (listed (found_record c n))) (call.search_routes_left c)
-
-pub record Request6 : Type 0 where
-  -- "Search fills a second slice with one route for each listed pair, in the record's order and without gaps: a count byte, then the nodes from source to
-  -- target." Each listed pair has its route there,
-  pub shown : (c : call.SearchCall) (n : ℕ) → call.search_result c ≡ success (n ∷ [])
-      → Each (RouteOf (study_of (call.search_file c)) (call.search_round c)) (listed (found_record c n)) (found_routes c n)
-  -- "Bytes past the routes stay."
-  pub bytes : (c : call.SearchCall) (n : ℕ) → call.search_result c ≡ success (n ∷ []) → let y = route_bytes (found_routes c n) in
-      call.search_routes_left c ≡ y ++ drop (length y) (call.search_routes_lent c)
-  -- the count is 2 to N, the nodes are those of the study and lead from its source to its target
-  pub counts : (f : List ℕ) (r : ℕ) (p : Pair) (vs : List ℕ) → None (round_tests f r) → RouteOf (study_of f) r p vs
-      → (2 ≤ length vs) × (length vs ≤ length (study_of f).classes)
-  pub nodes : (f : List ℕ) (r : ℕ) (p : Pair) (vs : List ℕ) → None (round_tests f r) → RouteOf (study_of f) r p vs
-      → (v : ℕ) → v ∈ vs → v < length (study_of f).classes
-  pub ends : (st : Study) (r : ℕ) (p : Pair) (vs : List ℕ) → RouteOf st r p vs → (get_or vs 0 0 ≡ st.source) × (get_or vs (length vs - 1) 0 ≡ st.target)
-  -- "A route visits no node twice, and for some choice of one study arc at each of its steps the pair is the one listed."
-  pub once : (st : Study) (r : ℕ) (p : Pair) (vs : List ℕ) → RouteOf st r p vs → Pairwise Differ vs
-  pub steps : (st : Study) (r : ℕ) (p : Pair) (vs : List ℕ) → RouteOf st r p vs → (ks : List Arc) × Along st vs ks × PairOf st r ks p
-  -- "15 comes when the first is shorter than the record or the second shorter than k × (N + 1) bytes, k being the number of listed pairs.", even where the
-  -- routes need less; with no pair listed the second may be empty, and stays
-  pub short : (c : call.SearchCall) → let st = study_of (call.search_file c) in None (round_tests (call.search_file c) (call.search_round c))
-      → (x : List ℕ) → RoundRecord st (call.search_round c) x → (call.search_result c ≡ refused 15)
-      ↔ ((length (call.search_lent c) < length x) ⊎ (length (call.search_routes_lent c) < length (listed x) * (length st.classes + 1)))
-  pub none-listed : (c : call.SearchCall) (n : ℕ) → call.search_result c ≡ success (n ∷ []) → listed (found_record c n) ≡ []
-      → call.search_routes_left c ≡ call.search_routes_lent c
-  -- "Callers that only want the front now lend both slices": where no number but 15 applies there is a search that hands on the front (`Searched`), and a
-  -- refused one leaves both slices as they were
-  pub searches : (f : List ℕ) (r : ℕ) → None (round_tests f r) → (x : List ℕ) × Searched f r x
-  pub neither : (c : call.SearchCall) (n : ℕ) → call.search_result c ≡ refused n
-      → (call.search_left c ≡ call.search_lent c) × (call.search_routes_left c ≡ call.search_routes_lent c)
-
--- every search of round 0 of this file that succeeds begins its second slice with these bytes
-abbrev pub RoutesAre : List ℕ → List ℕ → Type 0
-RoutesAre f y = (c : call.SearchCall) (v : List ℕ) → call.search_file c ≡ f → call.search_round c ≡ 0 → call.search_result c ≡ success v
-    → call.search_routes_left c ≡ y ++ drop (length y) (call.search_routes_lent c)
-
-pub record ShownRoutes : Type 0 where
-  -- R2: the sample ring has one route for each pair, 13 bytes; there is such a search
-  pub ring-routes : RoutesAre ring_file (3 ∷ 0 ∷ 5 ∷ 1 ∷ 4 ∷ 0 ∷ 2 ∷ 4 ∷ 1 ∷ 3 ∷ 0 ∷ 3 ∷ 1 ∷ [])
-  pub ring-made : (c : call.SearchCall) × (call.search_file c ≡ ring_file) × (call.search_round c ≡ 0) × (call.search_result c ≡ success (9 ∷ []))
-  -- 21 bytes are asked for: 20 give 15
-  pub ring-21 : (c : call.SearchCall) → call.search_file c ≡ ring_file → call.search_round c ≡ 0 → length (call.search_lent c) ≡ 9
-      → length (call.search_routes_lent c) ≡ 21 → call.search_result c ≡ success (9 ∷ [])
-  pub ring-20 : (c : call.SearchCall) → call.search_file c ≡ ring_file → call.search_round c ≡ 0 → length (call.search_lent c) ≡ 9
-      → length (call.search_routes_lent c) ≡ 20 → call.search_result c ≡ refused 15
-  -- the street behind (2, 2), and that of another pair, which is not behind it
-  pub street : RouteOf (study_of ring_file) 0 (pair_of 2 2) (0 ∷ 2 ∷ 4 ∷ 1 ∷ [])
-  pub not-street : RouteOf (study_of ring_file) 0 (pair_of 2 2) (0 ∷ 5 ∷ 1 ∷ []) → ⊥
-  -- S-4's bridge: the route behind (1, 3) leads over the pipe that fails, and shows its stations alone
-  pub over-a-pipe : RouteOf (study_of (study_bytes bridge)) 0 (pair_of 1 3) (0 ∷ 2 ∷ 3 ∷ 1 ∷ [])

@@ -1,5 +1,5 @@
 -- THE SAMPLE RING (document 01, R1, R2 and R7) by the terms of the page: calls that can be made, and what the demands say of them.
-use Rattle.std.specs.Prelude.{◌≡◌, List, [], ◌∷◌, ℕ, ◌+◌, ◌*◌, ◌≤◌, ◌<◌, replicate}
+use Rattle.std.specs.Prelude.{◌≡◌, List, [], ◌∷◌, ℕ, ◌+◌, ◌*◌, ◌≤◌, ◌<◌}
 use Rattle.front.specs.Pair.{pair_of}
 use Rattle.sections.specs.File.{study_of}
 use Rattle.chance.specs.Chance.{sum_e, scale_d}
@@ -7,7 +7,7 @@ use Rattle.soundness.specs.Tally.{cell}
 use Rattle.survival.specs.Counts.{Count, HoldsWith}
 use Rattle.plan.specs.Plan.{Plan, searched, series, parallel, PlanHolds, PlanSized}
 use Rattle.answer.specs.Outcome.{success, refused}
-use Rattle.samples.specs.Table.{ring_with, ring_file, ring, ten, twenty_one, twenty, ring_tally}
+use Rattle.samples.specs.Table.{ring_with, ring_file, ring, ten, eight, ring_tally}
 use Rattle.runs.specs.Arguments.{u8}
 use Rattle.runs.specs.Run.{Holds, Ends}
 use Rattle.kinds.specs.Kinds as call
@@ -20,10 +20,6 @@ use Rattle.demands.specs.Terms.{SameSections, Undominated, OfRoute, Wrote}
 abbrev pub ring_plan : Plan
 ring_plan = series (searched ring_file 0) (parallel (searched ring_file 0) (searched ring_file 0))
 
--- twenty-one bytes when its routes stand in them
-abbrev pub ring_routes_out : List ℕ
-ring_routes_out = 3 ∷ 0 ∷ 5 ∷ 1 ∷ 4 ∷ 0 ∷ 2 ∷ 4 ∷ 1 ∷ 3 ∷ 0 ∷ 3 ∷ 1 ∷ replicate 8 9
-
 abbrev pub ring_rounds : List (List ℕ × ℕ)
 ring_rounds = (ring_file, 0) ∷ []
 
@@ -34,13 +30,12 @@ pub record RingClaims : Type 0 where
   -- two files that differ in a byte in front of their sections, which nothing reads
   pub outside : SameSections (1 ∷ ring_file) (2 ∷ ring_file)
   pub reported : report_lines (1 ∷ ring_file) ≡ report_lines (2 ∷ ring_file)
-  -- R2 on the machine: the search's own code, run on the ring's file, ten bytes of room and twenty-one for the routes, ends; it answers 9, the room then
-  -- holds the record and its own tenth byte, and the other the routes 0 5 1, 0 2 4 1 and 0 3 1 and its own last eight. With twenty bytes for the routes it
-  -- ends with number 15, and file, room and routes are as they were
-  pub ran : ∥ ((e : Ends [] (call.search_run ring_file 0 ten twenty_one)) × (call.search_result e.made ≡ success (9 ∷ []))
-      × Holds e.memory u8 3 0 (2 ∷ 2 ∷ 3 ∷ 3 ∷ 1 ∷ 2 ∷ 2 ∷ 1 ∷ 3 ∷ 9 ∷ []) × Holds e.memory u8 4 0 ring_routes_out) ∥₁
-  pub ran-short : ∥ ((e : Ends [] (call.search_run ring_file 0 ten twenty)) × (call.search_result e.made ≡ refused 15)
-      × Holds e.memory u8 2 0 ring_file × Holds e.memory u8 3 0 ten × Holds e.memory u8 4 0 twenty) ∥₁
+  -- R2 on the machine: the search's own code, run on the ring's file and ten bytes of room, ends; it answers 9, and the room then holds the record and its
+  -- own tenth byte. With eight bytes of room it ends with number 15, and file and room are as they were
+  pub ran : ∥ ((e : Ends [] (call.search_run ring_file 0 ten)) × (call.search_result e.made ≡ success (9 ∷ []))
+      × Holds e.memory u8 3 0 (2 ∷ 2 ∷ 3 ∷ 3 ∷ 1 ∷ 2 ∷ 2 ∷ 1 ∷ 3 ∷ 9 ∷ [])) ∥₁
+  pub ran-short : ∥ ((e : Ends [] (call.search_run ring_file 0 eight)) × (call.search_result e.made ≡ refused 15)
+      × Holds e.memory u8 2 0 ring_file × Holds e.memory u8 3 0 eight) ∥₁
   -- so (2, 2) is the pair of a route that no route's pair dominates; (3, 3), the largest p1 and the largest p2 of different routes, is none
   pub listed : Undominated (OfRoute (study_of ring_file) 0) (pair_of 2 2)
   pub not_listed : Undominated (OfRoute (study_of ring_file) 0) (pair_of 3 3) → ⊥

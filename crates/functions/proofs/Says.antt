@@ -12,8 +12,8 @@ use native.Mathlib.Omega.{arith}
 use Rattle.answer.specs.Outcome.{Outcome, success, refused, filled}
 use Rattle.answer.proofs.Outcomes.{outcome-never}
 use Rattle.answer.proofs.Fills.{fill-never}
-use Rattle.study.specs.Calls.{open_values, check_tests}
-use Rattle.search.specs.Search.{search_bytes, search_tests, search_answer, RoutesLeft}
+use Rattle.study.specs.Calls.{open_values, check_tests, round_tests}
+use Rattle.search.specs.Search.{search_answer, search_bytes}
 use Rattle.compose.specs.Compose.{series_answer, series_bytes, parallel_answer, parallel_bytes}
 use Rattle.writer.specs.Writer.{Given, given_tests, write_answer, study_bytes}
 use Rattle.convert.specs.Convert.{convert_tests, convert_bytes, convert_answer}
@@ -70,7 +70,7 @@ use Rattle.medlarbrace.proofs.files.medlarbrace_write.Symbol as writer-symbol
 use Rattle.medlarbrace.proofs.files.medlarbrace_convert.Reads as converter-reads
 use Rattle.medlarbrace.proofs.files.medlarbrace_convert.Met as converter-met
 use Rattle.medlarbrace.proofs.files.medlarbrace_convert.Symbol as converter-symbol
-use Rattle.functions.specs.Functions.{open_function, round_function, search_function, series_function, parallel_function, new_function, add_function, remove_function, score_function, ageing_function, weights_function, reliability_function, write_function, convert_function, Says, SaysOne, KeepsUnless0, NeverReturns, EveryFunction}
+use Rattle.functions.specs.Functions.{open_function, round_function, search_function, series_function, parallel_function, new_function, add_function, remove_function, score_function, ageing_function, weights_function, reliability_function, write_function, convert_function, Says, KeepsUnless0, NeverReturns, EveryFunction}
 
 -- the machine's value is the number that was returned
 returned : {v : Val} {n m : ℕ} → v ∷ [] ≡ vint w32 n ∷ [] → n ≡ m → v ≡ vint w32 m
@@ -128,31 +128,18 @@ lookup-said f r start count others e =
     (returned e.value-is.0 d.kept.0, rw (← d.kept.1.0, ← d.kept.1.1) d.memory-is)
 
 -- ---- medlarbrace_search
-search-ends : (f : List ℕ) (r : ℕ) (out routes : List ℕ) (k : ℕ) → AlwaysEnds (search_function f r out routes k)
+search-ends : (f : List ℕ) (r : ℕ) (out : List ℕ) (k : ℕ) → AlwaysEnds (search_function f r out k)
 unfolding tables_of
-search-ends f r out routes k =
-    always (search_function f r out routes k) (search-reads.known w₀ (λ i. search-symbol.routine) any_name search-symbol.routine refl (search-met.met w₀.𝓤 w₀.𝓛 w₀.𝓜 w₀.𝓡)) (λ κs. tt) (λ b κs γs. tt)
+search-ends f r out k =
+    always (search_function f r out k) (search-reads.known w₀ (λ i. search-symbol.routine) any_name search-symbol.routine refl (search-met.met w₀.𝓤 w₀.𝓛 w₀.𝓜 w₀.𝓡)) (λ κs. tt) (λ b κs γs. tt)
 
-abbrev pub search-left : List ℕ → ℕ → List ℕ → Outcome → List ℕ → List Block
-search-left f k s a x = block u8 f ∷ block u8 s ∷ block u8 x ∷ block u64 (result 0 a k ∷ []) ∷ []
+abbrev pub search-left : List ℕ → ℕ → List ℕ → Outcome → List Block
+search-left f k s a = block u8 f ∷ block u8 s ∷ block u64 (result 0 a k ∷ []) ∷ []
 
-pub search-said : (f : List ℕ) (r : ℕ) (out routes : List ℕ) (k : ℕ) → let a = search_answer f r (length out) (length routes) in
-    SaysOne (search_function f r out routes k) a (RoutesLeft f r a routes) (search-left f k (filled a (search_bytes f r) out) a)
-search-said f r out routes k others e =
-    let d = told (search_function f r out routes k) e in
-    (returned e.value-is.0 d.kept.0, (_, d.kept.1.1.0, rw (← d.kept.1.0, ← d.kept.1.1.1) d.memory-is))
-
--- as the call has it
-search-as : (f : List ℕ) (r : ℕ) (out routes : List ℕ) (k : ℕ) (a o : Outcome) (s t : List ℕ) → a ≡ o → s ≡ t
-    → SaysOne (search_function f r out routes k) o (RoutesLeft f r o routes) (search-left f k t o) → SaysOne (search_function f r out routes k) a (RoutesLeft f r a routes) (search-left f k s a)
-search-as f r out routes k a o s t e h = rw (e, h) (λ says. says)
-
-search-keeps : (f : List ℕ) (r : ℕ) (out routes : List ℕ) (k : ℕ) (a : Outcome)
-    → SaysOne (search_function f r out routes k) a (RoutesLeft f r a routes) (search-left f k (filled a (search_bytes f r) out) a) → KeepsUnless0 (search_function f r out routes k)
-search-keeps f r out routes k (success v) says others e h = absurd (h (says others e).0)
-search-keeps f r out routes k (refused n) says others e h =
-    let x = (says others e).1 in
-    subst (λ b. Held e.memory (at others) (search-left f k out (refused n) b)) x.1 x.2
+pub search-said : (f : List ℕ) (r : ℕ) (out : List ℕ) (k : ℕ) → let a = search_answer f r (length out) in Says (search_function f r out k) a (search-left f k (filled a (search_bytes f r) out) a)
+search-said f r out k others e =
+    let d = told (search_function f r out k) e in
+    (returned e.value-is.0 d.kept.0, rw (← d.kept.1.0, ← d.kept.1.1) d.memory-is)
 
 -- ---- medlarbrace_series
 series-ends : (y z out : List ℕ) (k : ℕ) → AlwaysEnds (series_function y z out k)
@@ -285,16 +272,13 @@ writer-said g out k others e =
     let d = told (write_function g out k) e in
     (returned e.value-is.0 d.kept.0, rw (← d.kept.1.0, ← d.kept.1.1) d.memory-is)
 
--- ---- medlarbrace_convert
+-- ---- medlarbrace_convert; its blocks are a search's
 converter-ends : (f out : List ℕ) (k : ℕ) → AlwaysEnds (convert_function f out k)
 unfolding tables_of
 converter-ends f out k =
     always (convert_function f out k) (converter-reads.known w₀ (λ i. converter-symbol.routine) any_name converter-symbol.routine refl (converter-met.met w₀.𝓤 w₀.𝓛 w₀.𝓜 w₀.𝓡)) (λ κs. tt) (λ b κs γs. tt)
 
-abbrev converter-left : List ℕ → ℕ → List ℕ → Outcome → List Block
-converter-left f k s a = block u8 f ∷ block u8 s ∷ block u64 (result 0 a k ∷ []) ∷ []
-
-converter-said : (f out : List ℕ) (k : ℕ) → let a = convert_answer f (length out) in Says (convert_function f out k) a (converter-left f k (filled a (convert_bytes f) out) a)
+converter-said : (f out : List ℕ) (k : ℕ) → let a = convert_answer f (length out) in Says (convert_function f out k) a (search-left f k (filled a (convert_bytes f) out) a)
 converter-said f out k others e =
     let d = told (convert_function f out k) e in
     (returned e.value-is.0 d.kept.0, rw (← d.kept.1.0, ← d.kept.1.1) d.memory-is)
@@ -317,7 +301,7 @@ every-function =
       reliability-ends = reliability-ends;
       writer-ends = writer-ends;
       converter-ends = converter-ends;
-      search-says = λ c k. let f = call.search_file c in let r = call.search_round c in let out = call.search_lent c in let routes = call.search_routes_lent c in search-as f r out routes k (call.search_result c) _ (call.search_left c) _ c.kept.0 c.kept.1.0 (search-said f r out routes k);
+      search-says = λ c k. likewise (search_function (call.search_file c) (call.search_round c) (call.search_lent c) k) (search-left (call.search_file c) k) (call.search_result c) _ (call.search_left c) _ c.kept.0 c.kept.1 (search-said (call.search_file c) (call.search_round c) (call.search_lent c) k);
       series-says = λ c k. likewise (series_function (call.series_first c) (call.series_second c) (call.series_lent c) k) (series-left (call.series_first c) (call.series_second c) k) (call.series_result c) _ (call.series_left c) _ c.kept.0 c.kept.1 (series-said (call.series_first c) (call.series_second c) (call.series_lent c) k);
       parallel-says = λ c k. likewise (parallel_function (call.parallel_first c) (call.parallel_second c) (call.parallel_lent c) k) (series-left (call.parallel_first c) (call.parallel_second c) k) (call.parallel_result c) _ (call.parallel_left c) _ c.kept.0 c.kept.1 (parallel-said (call.parallel_first c) (call.parallel_second c) (call.parallel_lent c) k);
       new-says = λ c. likewise (new_function (call.new_size1 c) (call.new_size2 c) (call.new_lent c)) new-left (call.new_result c) _ (call.new_left c) _ c.kept.0 c.kept.1 (new-said (call.new_size1 c) (call.new_size2 c) (call.new_lent c));
@@ -328,13 +312,13 @@ every-function =
       weights-says = λ c. likewise (weights_function (call.weights_nodes c) (call.weights_chance c) (call.weights_lent c)) new-left (call.weights_result c) _ (call.weights_left c) _ c.kept.0 c.kept.1 (weights-said (call.weights_nodes c) (call.weights_chance c) (call.weights_lent c));
       reliability-says = λ c s m r. rw c.kept (reliability-said (call.rate_tally c) (call.rate_chance1 c) (call.rate_chance2 c) s m r);
       writer-says = λ c k. likewise (write_function (call.write_given c) (call.write_lent c) k) (writer-left (call.write_given c) k) (call.write_result c) _ (call.write_left c) _ c.kept.0 c.kept.1 (writer-said (call.write_given c) (call.write_lent c) k);
-      converter-says = λ c k. likewise (convert_function (call.convert_file c) (call.convert_lent c) k) (converter-left (call.convert_file c) k) (call.convert_result c) _ (call.convert_left c) _ c.kept.0 c.kept.1 (converter-said (call.convert_file c) (call.convert_lent c) k);
+      converter-says = λ c k. likewise (convert_function (call.convert_file c) (call.convert_lent c) k) (search-left (call.convert_file c) k) (call.convert_result c) _ (call.convert_left c) _ c.kept.0 c.kept.1 (converter-said (call.convert_file c) (call.convert_lent c) k);
       opening-says = opening-said;
       lookup-says = lookup-said;
       lookup-placed = λ c start count h. let p = round-placed (call.lookup_file c) (call.lookup_round c) start count h in (p.0, c.kept.0 ∙ sym p.1);
       opening-keeps = λ f header. keeps (open_function f header) (opening-left f header) (λ i. refl) (header_answer f (length header)) (opening-said f header);
       lookup-keeps = λ f r start count. keeps (round_function f r start count) (lookup-left f r start count) (λ i. refl) (place_answer f r) (lookup-said f r start count);
-      search-keeps = λ f r out routes k. search-keeps f r out routes k (search_answer f r (length out) (length routes)) (search-said f r out routes k);
+      search-keeps = λ f r out k. keeps (search_function f r out k) (λ a. search-left f k (filled a (search_bytes f r) out) a) (λ i. refl) (search_answer f r (length out)) (search-said f r out k);
       series-keeps = λ y z out k. keeps (series_function y z out k) (λ a. series-left y z k (filled a (series_bytes y z) out) a) (λ i. refl) (series_answer y z (length out)) (series-said y z out k);
       parallel-keeps = λ y z out k. keeps (parallel_function y z out k) (λ a. series-left y z k (filled a (parallel_bytes y z) out) a) (λ i. refl) (parallel_answer y z (length out)) (parallel-said y z out k);
       new-keeps = λ n1 n2 t. keeps (new_function n1 n2 t) (λ a. new-left (filled a (tally_of n1 n2 0 (λ l1 l2. 0)) t) a) (λ i. refl) (new_answer n1 n2 (length t)) (new-said n1 n2 t);
@@ -350,9 +334,10 @@ every-function =
       lookup-7 = λ f r start count.
           let a = place_answer f r in
           never (round_function f r start count) 7 a (lookup-left f r start count a) (λ e. absurd (omega (arith, e))) (lookup-said f r start count) (outcome-never 7 (check_tests f r) (place_values f r) tt);
-      search-7 = λ f r out routes k.
-          let a = search_answer f r (length out) (length routes) in
-          never (search_function f r out routes k) 7 a [] (λ e. absurd (omega (arith, e))) (λ others e. ((search-said f r out routes k others e).0, tt)) (fill-never 7 (search_tests f r (length routes)) (search_bytes f r) (length out) tt);
+      search-7 = λ f r out k.
+          let b = search_bytes f r in
+          let a = search_answer f r (length out) in
+          never (search_function f r out k) 7 a (search-left f k (filled a b out) a) (λ e. absurd (omega (arith, e))) (search-said f r out k) (fill-never 7 (round_tests f r) b (length out) tt);
       writer-7 = λ g out k.
           let b = study_bytes g in
           let a = write_answer g (length out) in
@@ -360,7 +345,7 @@ every-function =
       converter-7 = λ f out k.
           let b = convert_bytes f in
           let a = convert_answer f (length out) in
-          never (convert_function f out k) 7 a (converter-left f k (filled a b out) a) (λ e. absurd (omega (arith, e))) (converter-said f out k) (fill-never 7 (convert_tests f) b (length out) tt);
-      converter-keeps = λ f out k. keeps (convert_function f out k) (λ a. converter-left f k (filled a (convert_bytes f) out) a) (λ i. refl) (convert_answer f (length out)) (converter-said f out k);
+          never (convert_function f out k) 7 a (search-left f k (filled a b out) a) (λ e. absurd (omega (arith, e))) (converter-said f out k) (fill-never 7 (convert_tests f) b (length out) tt);
+      converter-keeps = λ f out k. keeps (convert_function f out k) (λ a. search-left f k (filled a (convert_bytes f) out) a) (λ i. refl) (convert_answer f (length out)) (converter-said f out k);
       writer-keeps = λ g out k. keeps (write_function g out k) (λ a. writer-left g k (filled a (study_bytes g) out) a) (λ i. refl) (write_answer g (length out)) (writer-said g out k);
     }

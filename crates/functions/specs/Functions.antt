@@ -1,14 +1,12 @@
 -- EVERY FUNCTION OF THE C INTERFACE (crate medlarbrace, include/medlarbrace.h) on the machine (runs/specs/Run.antt): it ends, on any arguments that a
 -- machine can hold; it returns 0 or the number of a refusal, what the call of document 01 with the same arguments answers (demands/specs/Demands.antt has what
--- is known of that call), and what it was lent then holds what that call left (a search's routes: ones that the call may show); where it returns another
--- number than 0, every lent block is as it was.
+-- is known of that call), and what it was lent then holds what that call left; where it returns another number than 0, every lent block is as it was.
 use Rattle.std.specs.Prelude.{◌≡◌, List, [], ◌∷◌, ℕ, ◌+◌, ◌≤◌, length}
 use mir.Val.{vint}
 use Rattle.std.specs.Int.{w32, w64}
 use Rattle.answer.specs.Outcome.{Outcome, success}
 use Rattle.slices.specs.Bytes.{part_at}
 use Rattle.writer.specs.Writer.{Given}
-use Rattle.search.specs.Search.{RoutesLeft}
 use Rattle.medlarbrace.specs.Interface.{code, result, header_answer, header_out, place_answer}
 use Rattle.runs.specs.Arguments.{u8, u32, u64, Block, block, number, shared, mutable, place, value, lent}
 use Rattle.runs.specs.Run.{at, Held, Run, run, Ends, AlwaysEnds}
@@ -69,10 +67,10 @@ round_function f r start count =
     run 3 (shared u8 0 tt f ∷ number w64 r ∷ place u64 1 tt start ∷ place u64 2 tt count ∷ [])
     (value lookup-kinds.r) lookup-reads.Asked lookup-reads.Learnt lookup-symbol.routine
 
--- medlarbrace_search(file, round, out, routes, written)
-abbrev pub search_function : List ℕ → ℕ → List ℕ → List ℕ → ℕ → Run
-search_function f r out routes k =
-    run 4 (shared u8 0 tt f ∷ number w64 r ∷ mutable u8 1 tt out ∷ mutable u8 2 tt routes ∷ place u64 3 tt k ∷ [])
+-- medlarbrace_search(file, round, out, written)
+abbrev pub search_function : List ℕ → ℕ → List ℕ → ℕ → Run
+search_function f r out k =
+    run 3 (shared u8 0 tt f ∷ number w64 r ∷ mutable u8 1 tt out ∷ place u64 2 tt k ∷ [])
     (value search-kinds.r) search-reads.Asked search-reads.Learnt search-symbol.routine
 
 -- medlarbrace_series(left, right, out, written)
@@ -138,11 +136,6 @@ convert_function f out k =
 abbrev pub Says : Run → Outcome → List Block → Type 0
 Says c answer blocks = (others : List Block) (e : Ends others c) → (e.value ≡ vint w32 (code answer)) × Held e.memory (at others) blocks
 
--- the same, where one block may be left in several ways: these, for one of them
-abbrev pub SaysOne : Run → Outcome → (List ℕ → Type 0) → (List ℕ → List Block) → Type 0
-SaysOne c answer May blocks =
-    (others : List Block) (e : Ends others c) → (e.value ≡ vint w32 (code answer)) × ((x : List ℕ) × May x × Held e.memory (at others) (blocks x))
-
 -- where it returns another number than 0, every lent block holds what it held
 abbrev pub KeepsUnless0 : Run → Type 0
 KeepsUnless0 c = (others : List Block) (e : Ends others c) → (e.value ≡ vint w32 0 → ⊥) → Held e.memory (at others) (lent c.args)
@@ -155,7 +148,7 @@ pub record EveryFunction : Type 0 where
   -- each ends, and asks nothing of its caller
   pub opening-ends : (f header : List ℕ) → AlwaysEnds (open_function f header)
   pub lookup-ends : (f : List ℕ) (r start count : ℕ) → AlwaysEnds (round_function f r start count)
-  pub search-ends : (f : List ℕ) (r : ℕ) (out routes : List ℕ) (k : ℕ) → AlwaysEnds (search_function f r out routes k)
+  pub search-ends : (f : List ℕ) (r : ℕ) (out : List ℕ) (k : ℕ) → AlwaysEnds (search_function f r out k)
   pub series-ends : (y z out : List ℕ) (k : ℕ) → AlwaysEnds (series_function y z out k)
   pub parallel-ends : (y z out : List ℕ) (k : ℕ) → AlwaysEnds (parallel_function y z out k)
   pub new-ends : (n1 n2 : ℕ) (t : List ℕ) → AlwaysEnds (new_function n1 n2 t)
@@ -169,11 +162,9 @@ pub record EveryFunction : Type 0 where
   pub converter-ends : (f out : List ℕ) (k : ℕ) → AlwaysEnds (convert_function f out k)
   -- what each answers and leaves: for every call, the function with that call's arguments answers and leaves what the call did; a value of
   -- the answer goes where its pointer leads (`result`: the value's place in the answer; what was there, on a refusal)
-  -- the routes are such as the call may leave: a route behind each listed pair, or after a refusal what was lent
   pub search-says : (c : call.SearchCall) (k : ℕ) → let a = call.search_result c in
-      SaysOne (search_function (call.search_file c) (call.search_round c) (call.search_lent c) (call.search_routes_lent c) k) a
-      (RoutesLeft (call.search_file c) (call.search_round c) a (call.search_routes_lent c))
-      (λ x. block u8 (call.search_file c) ∷ block u8 (call.search_left c) ∷ block u8 x ∷ block u64 (result 0 a k ∷ []) ∷ [])
+      Says (search_function (call.search_file c) (call.search_round c) (call.search_lent c) k) a
+      (block u8 (call.search_file c) ∷ block u8 (call.search_left c) ∷ block u64 (result 0 a k ∷ []) ∷ [])
   pub series-says : (c : call.SeriesCall) (k : ℕ) → let a = call.series_result c in
       Says (series_function (call.series_first c) (call.series_second c) (call.series_lent c) k) a
       (block u8 (call.series_first c) ∷ block u8 (call.series_second c) ∷ block u8 (call.series_left c) ∷ block u64 (result 0 a k ∷ []) ∷ [])
@@ -211,7 +202,7 @@ pub record EveryFunction : Type 0 where
   -- a number other than 0 leaves every lent block as it was
   pub opening-keeps : (f header : List ℕ) → KeepsUnless0 (open_function f header)
   pub lookup-keeps : (f : List ℕ) (r start count : ℕ) → KeepsUnless0 (round_function f r start count)
-  pub search-keeps : (f : List ℕ) (r : ℕ) (out routes : List ℕ) (k : ℕ) → KeepsUnless0 (search_function f r out routes k)
+  pub search-keeps : (f : List ℕ) (r : ℕ) (out : List ℕ) (k : ℕ) → KeepsUnless0 (search_function f r out k)
   pub series-keeps : (y z out : List ℕ) (k : ℕ) → KeepsUnless0 (series_function y z out k)
   pub parallel-keeps : (y z out : List ℕ) (k : ℕ) → KeepsUnless0 (parallel_function y z out k)
   pub new-keeps : (n1 n2 : ℕ) (t : List ℕ) → KeepsUnless0 (new_function n1 n2 t)
@@ -226,6 +217,6 @@ pub record EveryFunction : Type 0 where
   -- 02, S-1: "Number 7 no longer occurs." Of the functions on studies, which had it
   pub opening-7 : (f header : List ℕ) → NeverReturns 7 (open_function f header)
   pub lookup-7 : (f : List ℕ) (r start count : ℕ) → NeverReturns 7 (round_function f r start count)
-  pub search-7 : (f : List ℕ) (r : ℕ) (out routes : List ℕ) (k : ℕ) → NeverReturns 7 (search_function f r out routes k)
+  pub search-7 : (f : List ℕ) (r : ℕ) (out : List ℕ) (k : ℕ) → NeverReturns 7 (search_function f r out k)
   pub writer-7 : (g : Given) (out : List ℕ) (k : ℕ) → NeverReturns 7 (write_function g out k)
   pub converter-7 : (f out : List ℕ) (k : ℕ) → NeverReturns 7 (convert_function f out k)

@@ -2,19 +2,16 @@
 use Rattle.std.specs.Prelude.{◌≡◌, [], ◌∷◌}
 use mir.Val.{vint}
 use Rattle.std.specs.Int.{w32}
-use Rattle.samples.specs.Table.{ring_file, ten, eight, twenty_one, twenty}
+use Rattle.samples.specs.Table.{ring_file, ten, eight}
 use Rattle.runs.specs.Arguments.{u8, u64, block}
 use Rattle.runs.specs.Run.{Held, Ends}
 use Rattle.functions.specs.Functions.{search_function}
 
 pub record RingFunctions : Type 0 where
-  -- lent the ring's file, ten bytes of room, 21 for its routes and a length of 0 it ends and returns 0: the file is as it was, the room holds the record and
-  -- its own tenth byte, the other room the three routes and its own last eight bytes, the length is 9
-  pub ran : ∥ ((e : Ends [] (search_function ring_file 0 ten twenty_one 0)) × (e.value ≡ vint w32 0)
-      × Held e.memory 2 (block u8 ring_file ∷ block u8 (2 ∷ 2 ∷ 3 ∷ 3 ∷ 1 ∷ 2 ∷ 2 ∷ 1 ∷ 3 ∷ 9 ∷ [])
-      ∷ block u8 (3 ∷ 0 ∷ 5 ∷ 1 ∷ 4 ∷ 0 ∷ 2 ∷ 4 ∷ 1 ∷ 3 ∷ 0 ∷ 3 ∷ 1 ∷ eight) ∷ block u64 (9 ∷ []) ∷ [])) ∥₁
-  -- lent eight bytes of room, or 20 for its routes, it returns 15: file, both rooms and length are as they were
-  pub ran-short : ∥ ((e : Ends [] (search_function ring_file 0 eight twenty_one 7)) × (e.value ≡ vint w32 15)
-      × Held e.memory 2 (block u8 ring_file ∷ block u8 eight ∷ block u8 twenty_one ∷ block u64 (7 ∷ []) ∷ [])) ∥₁
-  pub ran-routes-short : ∥ ((e : Ends [] (search_function ring_file 0 ten twenty 7)) × (e.value ≡ vint w32 15)
-      × Held e.memory 2 (block u8 ring_file ∷ block u8 ten ∷ block u8 twenty ∷ block u64 (7 ∷ []) ∷ [])) ∥₁
+  -- lent the ring's file, ten bytes of room and a length of 0 it ends and returns 0: the file is as it was, the room holds the record and its own tenth byte,
+  -- the length is 9
+  pub ran : ∥ ((e : Ends [] (search_function ring_file 0 ten 0)) × (e.value ≡ vint w32 0)
+      × Held e.memory 2 (block u8 ring_file ∷ block u8 (2 ∷ 2 ∷ 3 ∷ 3 ∷ 1 ∷ 2 ∷ 2 ∷ 1 ∷ 3 ∷ 9 ∷ []) ∷ block u64 (9 ∷ []) ∷ [])) ∥₁
+  -- lent eight bytes of room it returns 15: file, room and length are as they were
+  pub ran-short : ∥ ((e : Ends [] (search_function ring_file 0 eight 7)) × (e.value ≡ vint w32 15)
+      × Held e.memory 2 (block u8 ring_file ∷ block u8 eight ∷ block u64 (7 ∷ []) ∷ [])) ∥₁

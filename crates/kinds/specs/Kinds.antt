@@ -123,9 +123,9 @@ lookup_result_slice c = c.result
 abbrev pub lookup_run : List ℕ → ℕ → Run
 lookup_run f r = run 1 (shared u8 0 tt f ∷ number w64 r ∷ []) (part u8 0 tt) lookup-reads.Asked lookup-reads.Learnt lookup-symbol.routine
 
--- ---- SEARCH: search::search(file, round, out, routes)
+-- ---- SEARCH: search::search(file, round, out)
 abbrev pub SearchCall : Type 0
-SearchCall = Call 3 search-kinds.ps search-kinds.r search-reads.Learnt
+SearchCall = Call 2 search-kinds.ps search-kinds.r search-reads.Learnt
 
 abbrev pub search_file : SearchCall → List ℕ
 search_file c = c.args.0.now
@@ -136,24 +136,18 @@ search_round c = c.args.1.0
 abbrev pub search_lent : SearchCall → List ℕ
 search_lent c = c.args.1.1.0.now
 
-abbrev pub search_routes_lent : SearchCall → List ℕ
-search_routes_lent c = c.args.1.1.1.0.now
-
 abbrev pub search_file_after : SearchCall → List ℕ
 search_file_after c = (after c).0.now
 
 abbrev pub search_left : SearchCall → List ℕ
 search_left c = (after c).1.1.0.now
 
-abbrev pub search_routes_left : SearchCall → List ℕ
-search_routes_left c = (after c).1.1.1.0.now
-
 abbrev pub search_result : SearchCall → Outcome
 search_result c = written c.result
 
-abbrev pub search_run : List ℕ → ℕ → List ℕ → List ℕ → Run
-search_run f r s t =
-    run 3 (shared u8 0 tt f ∷ number w64 r ∷ mutable u8 1 tt s ∷ mutable u8 2 tt t ∷ [])
+abbrev pub search_run : List ℕ → ℕ → List ℕ → Run
+search_run f r s =
+    run 2 (shared u8 0 tt f ∷ number w64 r ∷ mutable u8 1 tt s ∷ [])
     (value search-kinds.r) search-reads.Asked search-reads.Learnt search-symbol.routine
 
 -- ---- SERIES (01: row): compose::series(left, right, out); the two records are First and Second

@@ -10,25 +10,24 @@ use Rattle.limits.specs.Limits.{max_position}
 use Rattle.laws.specs.Tests.{order, equal}
 use Rattle.chains.specs.Steps.{to_at, head_at, Linked}
 use Rattle.relax.specs.declared.Step.{Step}
-use Rattle.relax.specs.Steps.{Reaches, Graph, graph_network, low, Relaxed, Ripe, Why, relaxed, piled, waits, left, Named, Work, Kept, NextLevel, Settled, Lent, Ready, Floodable, Lengths, start, moved}
-use Rattle.relax.proofs.Reaches.{reaches-lower, reaches-start, reaches-own}
+use Rattle.relax.specs.Steps.{Walked, Graph, graph_network, low, Relaxed, Ripe, Why, relaxed, piled, waits, left, Named, Work, Kept, NextLevel, Settled, Lent, Ready, Floodable, Lengths, start, moved}
+use Rattle.relax.proofs.Labels.{held-lower, held-t, pair-first}
 use Rattle.relax.proofs.Spreads.{low-less}
 
 -- ---- the same labels with another stack
-module _ {f : Graph} {a l : ℕ} {d nx stack wait : List ℕ} {top v i : ℕ} (w : Work f a l d nx stack wait top v i) where
+module _ {f : Graph} {a l : ℕ} {d stack wait : List ℕ} {top v i : ℕ} (w : Work f a l d stack wait top v i) where
   refit : (stack' : List ℕ) (top' v' i' : ℕ) → top' + low l d ≤ length d
       → ((k : ℕ) → k < top' → Ripe f a l d (get_or stack' k 0))
       → (0 < i' → Ripe f a l d v' × (i' ≤ length f.arcs) × (to_at f.arcs (i' - 1) ≡ v'))
       → ((j : ℕ) → j < length f.arcs → Why f l d stack wait top v i j → Why f l d stack' wait top' v' i' j)
-      → Work f a l d nx stack' wait top' v' i'
+      → Work f a l d stack' wait top' v' i'
   refit stack' top' v' i' fits pile going go =
       record {
         laid = w.laid;
         long = w.long;
-        long-next = w.long-next;
         short = w.short;
         long-wait = w.long-wait;
-        reaches = w.reaches;
+        held = w.held;
         early = w.early;
         some = w.some;
         high = w.high;
@@ -41,8 +40,8 @@ module _ {f : Graph} {a l : ℕ} {d nx stack wait : List ℕ} {top v i : ℕ} (w
       }
 
 -- the first node goes on the stack
-pub begin : {f : Graph} {a l : ℕ} {d nx wait : List ℕ} {v : ℕ} (stack : List ℕ) → 0 < length stack → Work f a l d nx (v ∷ []) wait 1 0 0 → Work f a l d nx (set stack 0 v) wait 1 0 0
-begin {f} {a} {l} {d} {nx} {wait} {v} stack h w = refit w (set stack 0 v) 1 0 0 w.fits (λ k b. subst (Ripe f a l d) (same k b) (w.pile k b)) w.going go
+pub begin : {f : Graph} {a l : ℕ} {d wait : List ℕ} {v : ℕ} (stack : List ℕ) → 0 < length stack → Work f a l d (v ∷ []) wait 1 0 0 → Work f a l d (set stack 0 v) wait 1 0 0
+begin {f} {a} {l} {d} {wait} {v} stack h w = refit w (set stack 0 v) 1 0 0 w.fits (λ k b. subst (Ripe f a l d) (same k b) (w.pile k b)) w.going go
   where
     same : (k : ℕ) → k < 1 → get_or (v ∷ []) k 0 ≡ get_or (set stack 0 v) k 0
     same zero b = sym (get_or-set_same stack 0 v 0 h)
@@ -55,9 +54,9 @@ begin {f} {a} {l} {d} {nx} {wait} {v} stack h w = refit w (set stack 0 v) 1 0 0 
     go j n (left e h) = left e h
 
 -- a node is popped, and its chain begins
-pop : {f : Graph} {size : ℕ} {links : List ℕ} → Linked size f.arcs links → length f.entry ≤ size → {a l : ℕ} {d nx stack wait : List ℕ} {top : ℕ} → Work f a l d nx stack wait top 0 0
-    → (k : ℕ) → top ≡ suc k → (u : ℕ) → u ≡ get_or stack k 0 → (u < length f.entry) × Work f a l d nx stack wait k u (head_at links u)
-pop {f} {links = links} ch in_size {a} {l} {d} {nx} {stack} {wait} {top} w k is u is-u =
+pop : {f : Graph} {size : ℕ} {links : List ℕ} → Linked size f.arcs links → length f.entry ≤ size → {a l : ℕ} {d stack wait : List ℕ} {top : ℕ} → Work f a l d stack wait top 0 0
+    → (k : ℕ) → top ≡ suc k → (u : ℕ) → u ≡ get_or stack k 0 → (u < length f.entry) × Work f a l d stack wait k u (head_at links u)
+pop {f} {links = links} ch in_size {a} {l} {d} {stack} {wait} {top} w k is u is-u =
     (ripe.node, refit w stack k u (head_at links u) (omega (arith, w.fits)) (λ n h. w.pile n (omega arith)) (λ h. let r = ch.head-is u (head_at links u - 1) (omega (arith, ripe.node, in_size)) (omega arith) in (ripe, omega arith, r.1)) go)
   where
     ripe : Ripe f a l d u
@@ -71,8 +70,8 @@ pop {f} {links = links} ch in_size {a} {l} {d} {nx} {stack} {wait} {top} w k is 
     go j h (left e b) = absurd (omega arith)
 
 -- no chain is at work
-anew : {f : Graph} {a l : ℕ} {d nx stack wait : List ℕ} {top v : ℕ} → Work f a l d nx stack wait top v 0 → Work f a l d nx stack wait top 0 0
-anew {f} {a} {l} {d} {nx} {stack} {wait} {top} {v} w = refit w stack top 0 0 w.fits w.pile (λ h. absurd (omega arith)) go
+anew : {f : Graph} {a l : ℕ} {d stack wait : List ℕ} {top v : ℕ} → Work f a l d stack wait top v 0 → Work f a l d stack wait top 0 0
+anew {f} {a} {l} {d} {stack} {wait} {top} {v} w = refit w stack top 0 0 w.fits w.pile (λ h. absurd (omega arith)) go
   where
     go : (j : ℕ) → j < length f.arcs → Why f l d stack wait top v 0 j → Why f l d stack wait top 0 0 j
     go j h (relaxed x) = relaxed x
@@ -81,8 +80,8 @@ anew {f} {a} {l} {d} {nx} {stack} {wait} {top} {v} w = refit w stack top 0 0 w.f
     go j h (left e b) = absurd (omega arith)
 
 -- once s has the level, every arc into a node on the stack is relaxed
-pub emptied : {f : Graph} {a l : ℕ} {d nx stack wait : List ℕ} {top : ℕ} → Work f a l d nx stack wait top 0 0 → (0 < top → l ≤ get_or d f.source 0) → Work f a l d nx [] wait 0 0 0
-emptied {f} {a} {l} {d} {nx} {stack} {wait} {top} w enough = refit w [] 0 0 0 (omega (arith, w.fits)) (λ k h. absurd (omega arith)) (λ h. absurd (omega arith)) go
+pub emptied : {f : Graph} {a l : ℕ} {d stack wait : List ℕ} {top : ℕ} → Work f a l d stack wait top 0 0 → (0 < top → l ≤ get_or d f.source 0) → Work f a l d [] wait 0 0 0
+emptied {f} {a} {l} {d} {stack} {wait} {top} w enough = refit w [] 0 0 0 (omega (arith, w.fits)) (λ k h. absurd (omega arith)) (λ h. absurd (omega arith)) go
   where
     go : (j : ℕ) → j < length f.arcs → Why f l d stack wait top 0 0 j → Why f l d [] wait 0 0 0 j
     go j h (relaxed x) = relaxed x
@@ -90,22 +89,22 @@ emptied {f} {a} {l} {d} {nx} {stack} {wait} {top} w enough = refit w [] 0 0 0 (o
     go j h (waits x) = waits x
     go j h (left e b) = absurd (omega arith)
 
-pub record Draining (f : Graph) (capacities links : List ℕ) (a l : ℕ) (d₀ nx₀ stack₀ wait₀ d nx stack wait : List ℕ) (top : ℕ) : Type 0 where
+pub record Draining (f : Graph) (capacities links : List ℕ) (a l : ℕ) (d₀ stack₀ wait₀ d stack wait : List ℕ) (top : ℕ) : Type 0 where
   -- the labels, no chain at work
-  pub work : Work f a l d nx stack wait top 0 0
+  pub work : Work f a l d stack wait top 0 0
   -- as long as at the start
-  pub lengths : Lengths d₀ nx₀ stack₀ wait₀ d nx stack wait
+  pub lengths : Lengths d₀ stack₀ wait₀ d stack wait
   -- what the slices hold
   pub lent : Lent f capacities links
   -- the stack holds every node
   pub room : length d ≤ length stack
 
-pub drained : {f : Graph} {capacities links : List ℕ} {a l : ℕ} {d₀ nx₀ stack₀ wait₀ d nx stack wait : List ℕ} {top : ℕ} → Draining f capacities links a l d₀ nx₀ stack₀ wait₀ d nx stack wait top
-    → {top₁ : ℕ} {d₁ nx₁ stack₁ wait₁ : List ℕ} {top₂ v : ℕ} → Work f a l d₁ nx₁ stack₁ wait₁ top₂ v 0 → Kept l d nx stack wait top₁ d₁ nx₁ stack₁ wait₁ top₂ → Draining f capacities links a l d₀ nx₀ stack₀ wait₀ d₁ nx₁ stack₁ wait₁ top₂
+pub drained : {f : Graph} {capacities links : List ℕ} {a l : ℕ} {d₀ stack₀ wait₀ d stack wait : List ℕ} {top : ℕ} → Draining f capacities links a l d₀ stack₀ wait₀ d stack wait top
+    → {top₁ : ℕ} {d₁ stack₁ wait₁ : List ℕ} {top₂ v : ℕ} → Work f a l d₁ stack₁ wait₁ top₂ v 0 → Kept l d stack wait top₁ d₁ stack₁ wait₁ top₂ → Draining f capacities links a l d₀ stack₀ wait₀ d₁ stack₁ wait₁ top₂
 drained n w k =
     record {
       work = anew w;
-      lengths = record { labels = k.long ∙ n.lengths.labels; nexts = k.long-next ∙ n.lengths.nexts; pile = k.long-stack ∙ n.lengths.pile; levels = k.long-wait ∙ n.lengths.levels };
+      lengths = record { labels = k.long ∙ n.lengths.labels; pile = k.long-stack ∙ n.lengths.pile; levels = k.long-wait ∙ n.lengths.levels };
       lent = n.lent;
       room = omega (arith, n.room, k.long, k.long-stack);
     }
@@ -133,16 +132,15 @@ seek-on {wait} {l} {m} s h e =
       long = s.long;
     }
 
-module _ {f : Graph} {a l : ℕ} {d nx wait : List ℕ} (w : Work f a l d nx [] wait 0 0 0) where
-  pub settle : {m : ℕ} → NextLevel wait l (get_or d f.source 0) m → m ≡ 0 → a < start f → Settled f a d nx wait
+module _ {f : Graph} {a l : ℕ} {d wait : List ℕ} (w : Work f a l d [] wait 0 0 0) where
+  pub settle : {m : ℕ} → NextLevel wait l (get_or d f.source 0) m → m ≡ 0 → a < start f → Settled f a d wait
   settle {m} n z b =
       record {
         laid = w.laid;
         long = w.long;
-        long-next = w.long-next;
         short = w.short;
         long-wait = w.long-wait;
-        reaches = w.reaches;
+        held = w.held;
         at-t = λ _. w.at-t;
         clear = λ h. absurd (omega arith);
         marked = w.marked;
@@ -160,15 +158,14 @@ module _ {f : Graph} {a l : ℕ} {d nx wait : List ℕ} (w : Work f a l d nx [] 
     named : Named f d m y
     named = w.marked m y h is_y
 
-    descend : Work f a m d nx (y ∷ []) (set wait p 0) 1 0 0
+    descend : Work f a m d (y ∷ []) (set wait p 0) 1 0 0
     descend =
         rw is (record {
           laid = w.laid;
           long = w.long;
-          long-next = w.long-next;
           short = w.short;
           long-wait = rw length-set w.long-wait;
-          reaches = w.reaches;
+          held = w.held;
           early = w.early;
           some = h;
           high = omega (arith, named.below);
@@ -202,11 +199,11 @@ module _ {f : Graph} {a l : ℕ} {d nx wait : List ℕ} (w : Work f a l d nx [] 
             (λ ne. waits (record { below = omega arith; full = x.full; flag = λ q. x.flag (sym (get_or-set_other wait m z 0 0 ne) ∙ q) })) (equal z m))
             (λ lt. absurd (x.flag (n.none z (omega (arith, n.found h)) x.below))) (order z m)
 
-pub record Flooding (f : Graph) (capacities links : List ℕ) (a : ℕ) (d₀ nx₀ stack₀ wait₀ d nx stack wait : List ℕ) (l v : ℕ) : Type 0 where
+pub record Flooding (f : Graph) (capacities links : List ℕ) (a : ℕ) (d₀ stack₀ wait₀ d stack wait : List ℕ) (l v : ℕ) : Type 0 where
   -- the labels, with v alone on the stack
-  pub work : Work f a l d nx (v ∷ []) wait 1 0 0
+  pub work : Work f a l d (v ∷ []) wait 1 0 0
   -- as long as at the start
-  pub lengths : Lengths d₀ nx₀ stack₀ wait₀ d nx stack wait
+  pub lengths : Lengths d₀ stack₀ wait₀ d stack wait
   -- what the slices hold
   pub lent : Lent f capacities links
   -- the stack holds every node
@@ -214,25 +211,25 @@ pub record Flooding (f : Graph) (capacities links : List ℕ) (a : ℕ) (d₀ nx
   -- both ends are in
   pub begun : a < start f
 
-pub joined : {a n b c d o e g h q i j : List ℕ} → Lengths a n b c d o e g → Lengths d o e g h q i j → Lengths a n b c h q i j
-joined x y = record { labels = y.labels ∙ x.labels; nexts = y.nexts ∙ x.nexts; pile = y.pile ∙ x.pile; levels = y.levels ∙ x.levels }
+pub joined : {a b c d e g h i j : List ℕ} → Lengths a b c d e g → Lengths d e g h i j → Lengths a b c h i j
+joined x y = record { labels = y.labels ∙ x.labels; pile = y.pile ∙ x.pile; levels = y.levels ∙ x.levels }
 
-pub flooded : {f : Graph} {capacities links : List ℕ} {a : ℕ} {d₀ nx₀ stack₀ wait₀ d nx stack wait : List ℕ} {l v : ℕ} → Flooding f capacities links a d₀ nx₀ stack₀ wait₀ d nx stack wait l v
-    → {d₁ nx₁ stack₁ wait₁ : List ℕ} → Work f a l d₁ nx₁ [] wait₁ 0 0 0 → Lengths d nx stack wait d₁ nx₁ stack₁ wait₁ → {m : ℕ} → NextLevel wait₁ l (get_or d₁ f.source 0) m → 0 < m → (p : ℕ) → p ≡ m → (y : ℕ) → get_or wait₁ m 0 ≡ suc y
-    → Flooding f capacities links a d₀ nx₀ stack₀ wait₀ d₁ nx₁ stack₁ (set wait₁ p 0) m y
-flooded n {wait₁ = wait₁} w k x h p is y is_y =
+pub flooded : {f : Graph} {capacities links : List ℕ} {a : ℕ} {d₀ stack₀ wait₀ d stack wait : List ℕ} {l v : ℕ} → Flooding f capacities links a d₀ stack₀ wait₀ d stack wait l v
+    → {d₁ stack₁ wait₁ : List ℕ} → Work f a l d₁ [] wait₁ 0 0 0 → Lengths d stack wait d₁ stack₁ wait₁ → {m : ℕ} → NextLevel wait₁ l (get_or d₁ f.source 0) m → 0 < m → (p : ℕ) → p ≡ m → (y : ℕ) → get_or wait₁ m 0 ≡ suc y
+    → Flooding f capacities links a d₀ stack₀ wait₀ d₁ stack₁ (set wait₁ p 0) m y
+flooded n {d₁} {stack₁} {wait₁} w k x h p is y is_y =
     record {
       work = descend w x h p is y is_y;
-      lengths = joined n.lengths (record { labels = k.labels; nexts = k.nexts; pile = k.pile; levels = length-set wait₁ p 0 ∙ k.levels });
+      lengths = joined n.lengths (record { labels = k.labels; pile = k.pile; levels = length-set wait₁ p 0 ∙ k.levels });
       lent = n.lent;
       room = omega (arith, n.room, k.labels, k.pile);
       begun = n.begun;
     }
 
 -- ---- one failure fewer
-module _ {f : Graph} {a : ℕ} {d nx wait : List ℕ} (s : Settled f (suc a) d nx wait) where
-  lower : Reaches (graph_network f) a (λ v. get_or d v 0) (λ v. get_or nx v 0)
-  lower = reaches-lower (graph_network f) a (λ v. get_or d v 0) (λ v. get_or nx v 0) s.reaches
+module _ {f : Graph} {a : ℕ} {d wait : List ℕ} (s : Settled f (suc a) d wait) where
+  lower : Walked (graph_network f) a (λ v. get_or d v 0)
+  lower = held-lower (graph_network f) a (λ v. get_or d v 0) s.held
 
   -- both are in: t has its capacity
   module _ (t y : ℕ) (is-t : f.target ≡ t) (is_y : get_or f.cap t 0 ≡ y) (e : start f ≡ suc a) (h : a ≤ f.n1) where
@@ -255,15 +252,14 @@ module _ {f : Graph} {a : ℕ} {d nx wait : List ℕ} (s : Settled f (suc a) d n
     pile-t zero b = record { node = omega (arith, is-t, s.laid.t-in); at = now; in-it = omega (arith, e, ap (λ x. get_or f.entry x 0) is-t) }
     pile-t (suc k) b = absurd (omega arith)
 
-    pub first-in : Work f a y (set d t y) nx (t ∷ []) wait 1 0 0
+    pub first-in : Work f a y (set d t y) (t ∷ []) wait 1 0 0
     first-in =
         record {
           laid = s.laid;
           long = rw length-set s.long;
-          long-next = s.long-next;
           short = rw length-set s.short;
           long-wait = s.long-wait;
-          reaches = reaches-start (graph_network f) a (λ v. get_or (set d t y) v 0) (λ v. get_or nx v 0) (λ v n. other v (λ q. n (q ∙ sym is-t)) ∙ zero-at v) (omega (arith, now, is_y, ap (λ x. get_or f.cap x 0) is-t, ap (λ x. get_or (set d t y) x 0) is-t));
+          held = held-t (graph_network f) a (λ v. get_or d v 0) (λ v. get_or (set d t y) v 0) lower (λ v n. other v (λ q. n (q ∙ sym is-t))) (omega (arith, now, is_y, ap (λ x. get_or f.cap x 0) is-t, ap (λ x. get_or (set d t y) x 0) is-t));
           early = h;
           some = pos;
           high = omega (arith, is_y, s.laid.high t (omega (arith, is-t, s.laid.t-in)));
@@ -285,15 +281,14 @@ module _ {f : Graph} {a : ℕ} {d nx wait : List ℕ} (s : Settled f (suc a) d n
         ⊎_elim (λ le. inr (alone (to_at f.arcs j) (s.laid.ends j (omega arith)).1 (omega arith))) (λ lt. inl (s.relaxed j b lt)) (order (get_or f.entry (to_at f.arcs j) 0) (suc a))
 
     -- its label is not above that of s
-    pub skipped : get_or d w 0 ≤ get_or d f.source 0 → Settled f a d nx wait
+    pub skipped : get_or d w 0 ≤ get_or d f.source 0 → Settled f a d wait
     skipped k =
         record {
           laid = s.laid;
           long = s.long;
-          long-next = s.long-next;
           short = s.short;
           long-wait = s.long-wait;
-          reaches = lower;
+          held = lower;
           at-t = λ _. s.at-t h;
           clear = λ b. absurd (omega arith);
           marked = s.marked;
@@ -304,18 +299,18 @@ module _ {f : Graph} {a : ℕ} {d nx wait : List ℕ} (s : Settled f (suc a) d n
     pile-w zero b = record { node = node; at = refl; in-it = omega (arith, at) }
     pile-w (suc k) b = absurd (omega arith)
 
-    pub entered : a ≤ f.n1 → get_or d f.source 0 < get_or d w 0 → Work f a (get_or d w 0) d nx (w ∷ []) wait 1 0 0
+    pub entered : a ≤ f.n1 → get_or d f.source 0 < get_or d w 0 → Work f a (get_or d w 0) d (w ∷ []) wait 1 0 0
     entered b k =
+        let g = s.held w (omega arith) in
         record {
           laid = s.laid;
           long = s.long;
-          long-next = s.long-next;
           short = s.short;
           long-wait = s.long-wait;
-          reaches = lower;
+          held = lower;
           early = b;
           some = omega arith;
-          high = omega (arith, reaches-own (graph_network f) (suc a) (λ v. get_or d v 0) (λ v. get_or nx v 0) s.reaches w (omega arith), s.laid.high w node);
+          high = omega (arith, g.3, pair-first (graph_network f) w g.0, s.laid.high w node);
           at-t = s.at-t h;
           fits = omega (arith, low-less (get_or d w 0) w d (omega (arith, enters)) (omega arith));
           pile = pile-w;
@@ -324,23 +319,23 @@ module _ {f : Graph} {a : ℕ} {d nx wait : List ℕ} (s : Settled f (suc a) d n
           why = λ j b e. ⊎_elim (λ q. relaxed q) (λ i. piled 0 (omega arith) i) (by j b e);
         }
 
-pub unset : (stack : List ℕ) (v : ℕ) {d nx wait d₁ nx₁ stack₁ wait₁ : List ℕ} → Lengths d nx (set stack 0 v) wait d₁ nx₁ stack₁ wait₁ → Lengths d nx stack wait d₁ nx₁ stack₁ wait₁
-unset stack v x = record { labels = x.labels; nexts = x.nexts; pile = x.pile ∙ length-set stack 0 v; levels = x.levels }
+pub unset : (stack : List ℕ) (v : ℕ) {d wait d₁ stack₁ wait₁ : List ℕ} → Lengths d (set stack 0 v) wait d₁ stack₁ wait₁ → Lengths d stack wait d₁ stack₁ wait₁
+unset stack v x = record { labels = x.labels; pile = x.pile ∙ length-set stack 0 v; levels = x.levels }
 
 -- the same with another stack of that length
-pub restack : {f : Graph} {capacities links : List ℕ} {at : Step} {d nx stack wait : List ℕ} (v : ℕ) → Floodable f capacities links at d nx stack wait → Floodable f capacities links at d nx (set stack 0 v) wait
+pub restack : {f : Graph} {capacities links : List ℕ} {at : Step} {d stack wait : List ℕ} (v : ℕ) → Floodable f capacities links at d stack wait → Floodable f capacities links at d (set stack 0 v) wait
 restack {stack = stack} v b = record { lent = b.lent; source = b.source; work = b.work; some = b.some; begun = b.begun; room = omega (arith, b.room, length-set stack 0 v) }
 
 -- a node is popped: `spread` may go on from it
-pub popped : {f : Graph} {capacities links : List ℕ} (at : Step) {d₀ nx₀ stack₀ wait₀ : List ℕ} → Floodable f capacities links at d₀ nx₀ stack₀ wait₀
-    → {e n₁ stack₁ wait₁ d nx stack wait : List ℕ} (top : ℕ) → Draining f capacities links (at.x.0 - 1) at.level.0 e n₁ stack₁ wait₁ d nx stack wait top → 0 < top
-    → Ready f capacities links (moved at at.x.0 at.level.0 (get_or stack (top - 1) 0) (top - 1)) d nx stack wait
+pub popped : {f : Graph} {capacities links : List ℕ} (at : Step) {d₀ stack₀ wait₀ : List ℕ} → Floodable f capacities links at d₀ stack₀ wait₀
+    → {e stack₁ wait₁ d stack wait : List ℕ} (top : ℕ) → Draining f capacities links (at.x.0 - 1) at.level.0 e stack₁ wait₁ d stack wait top → 0 < top
+    → Ready f capacities links (moved at at.x.0 at.level.0 (get_or stack (top - 1) 0) (top - 1)) d stack wait
 popped at b {stack = stack} top n h =
     let p = pop n.lent.chains n.lent.long n.work (top - 1) (omega arith) (get_or stack (top - 1) 0) refl in
     record { lent = n.lent; work = p.1; some = b.some; node = p.0; room = n.room }
 
 -- a level is next: `drain` may go on from its node
-pub leveled : {f : Graph} {capacities links : List ℕ} (at : Step) {d₀ nx₀ stack₀ wait₀ : List ℕ} → Floodable f capacities links at d₀ nx₀ stack₀ wait₀
-    → {e n₁ stack₁ wait₁ d nx stack wait : List ℕ} (l v : ℕ) → Flooding f capacities links (at.x.0 - 1) e n₁ stack₁ wait₁ d nx stack wait l v
-    → Floodable f capacities links (moved at at.x.0 l v 0) d nx stack wait
+pub leveled : {f : Graph} {capacities links : List ℕ} (at : Step) {d₀ stack₀ wait₀ : List ℕ} → Floodable f capacities links at d₀ stack₀ wait₀
+    → {e stack₁ wait₁ d stack wait : List ℕ} (l v : ℕ) → Flooding f capacities links (at.x.0 - 1) e stack₁ wait₁ d stack wait l v
+    → Floodable f capacities links (moved at at.x.0 l v 0) d stack wait
 leveled at b l v n = record { lent = n.lent; source = b.source; work = n.work; some = b.some; begun = b.begun; room = n.room }

@@ -15,9 +15,9 @@ use Rattle.relax.specs.Steps.{Graph, Laid, graph_network, Settled, start}
 use Rattle.relax.proofs.Labels.{relaxed-hold}
 use Rattle.relax.proofs.Arcs.{arcs-out}
 
-pub settled-hold : {f : Graph} {a : ℕ} {d nx wait : List ℕ} → Settled f a d nx wait → a ≤ f.n1 → (b : ℕ) → T (holds (route_pairs (graph_network f)) a b) ↔ (b < get_or d f.source 0)
-settled-hold {f} {a} {d} {nx} s h =
-    relaxed-hold (graph_network f) a (λ v. get_or d v 0) (λ v. get_or nx v 0) s.reaches
+pub settled-hold : {f : Graph} {a : ℕ} {d wait : List ℕ} → Settled f a d wait → a ≤ f.n1 → (b : ℕ) → T (holds (route_pairs (graph_network f)) a b) ↔ (b < get_or d f.source 0)
+settled-hold {f} {a} {d} s h =
+    relaxed-hold (graph_network f) a (λ v. get_or d v 0) s.held
     (record {
       s-in = λ p. ⊎_elim (λ le. absurd (omega (arith, s.clear le f.source))) (λ lt. omega arith) (order (start f) a);
       at-t = λ i. s.at-t (omega (arith, i));
@@ -27,15 +27,14 @@ settled-hold {f} {a} {d} {nx} s h =
     })
 
 -- nothing is labelled while an end is shut
-pub at_first : {f : Graph} {a : ℕ} {d nx wait : List ℕ} → Laid f → start f ≤ a → length f.entry ≤ length d → length d ≤ max_elements → length f.entry ≤ length nx → max_position + 1 ≤ length wait → ((v : ℕ) → get_or d v 0 ≡ 0) → ((c : ℕ) → get_or wait c 0 ≡ 0) → Settled f a d nx wait
-at_first {f} o b g h m k z y =
+pub at_first : {f : Graph} {a : ℕ} {d wait : List ℕ} → Laid f → start f ≤ a → length f.entry ≤ length d → length d ≤ max_elements → max_position + 1 ≤ length wait → ((v : ℕ) → get_or d v 0 ≡ 0) → ((c : ℕ) → get_or wait c 0 ≡ 0) → Settled f a d wait
+at_first {f} o b g h k z y =
     record {
       laid = o;
       long = g;
-      long-next = m;
       short = h;
       long-wait = k;
-      reaches = λ v p. absurd (omega (arith, z v));
+      held = λ v p. absurd (omega (arith, z v));
       at-t = λ c. absurd (omega arith);
       clear = λ _. z;
       marked = λ c w pos e. absurd (omega (arith, y c));

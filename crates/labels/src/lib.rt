@@ -14,16 +14,14 @@ fn drain(
     links: &[u16],
     at: Step,
     label: &mut [u8],
-    next: &mut [u16],
     stack: &mut [u16],
     wait: &mut [u16],
 )
-    requires { (f : Graph) × Floodable f capacities.now links.now at label.old next.old stack.old wait.old }
+    requires { (f : Graph) × Floodable f capacities.now links.now at label.old stack.old wait.old }
     ensures work { (f : Graph)
-        → Floodable f capacities.now links.now at label.old next.old stack.old
-        wait.old → Work f (at.x.0 - 1) at.level.0 label.new next.new [] wait.new 0 0 0 }
-    ensures long { Lengths label.old next.old stack.old wait.old label.new
-        next.new stack.new wait.new }
+        → Floodable f capacities.now links.now at label.old stack.old wait.old
+        → Work f (at.x.0 - 1) at.level.0 label.new [] wait.new 0 0 0 }
+    ensures long { Lengths label.old stack.old wait.old label.new stack.new wait.new }
 {
     stack[0] = at.node;
     let mut top: usize = 1;
@@ -33,8 +31,8 @@ fn drain(
             return;
         }
         let k = top - 1;
-        let go = step_to(at, at.x, at.level, stack[k], k);
-        top = spread(capacities, links, go, label, next, stack, wait);
+        let next = step_to(at, at.x, at.level, stack[k], k);
+        top = spread(capacities, links, next, label, stack, wait);
     }
 }
 
@@ -61,22 +59,20 @@ pub fn flood(
     links: &[u16],
     begin: Step,
     label: &mut [u8],
-    next: &mut [u16],
     stack: &mut [u16],
     wait: &mut [u16],
 )
-    requires { (f : Graph) × Floodable f capacities.now links.now begin label.old next.old stack.old wait.old }
+    requires { (f : Graph) × Floodable f capacities.now links.now begin label.old stack.old wait.old }
     ensures settled { (f : Graph)
-        → Floodable f capacities.now links.now begin label.old next.old stack.old
-        wait.old → Settled f (begin.x.0 - 1) label.new next.new wait.new }
-    ensures long { Lengths label.old next.old stack.old wait.old label.new
-        next.new stack.new wait.new }
+        → Floodable f capacities.now links.now begin label.old stack.old wait.old
+        → Settled f (begin.x.0 - 1) label.new wait.new }
+    ensures long { Lengths label.old stack.old wait.old label.new stack.new wait.new }
 {
     let mut level = begin.level;
     let mut node = begin.node;
     loop {
         let at = step_to(begin, begin.x, level, node, 0);
-        drain(capacities, links, at, label, next, stack, wait);
+        drain(capacities, links, at, label, stack, wait);
         let s = begin.source;
         level = next_level(wait, level, Pos2(label[s]));
         let p = wide(level.0);

@@ -3,7 +3,7 @@ use Rattle.std.specs.Prelude.{◌≡◌, Bool, true, false, cond, List, [], ◌�
 use Rattle.laws.specs.Members.{concat_map}
 use Rattle.answer.specs.Outcome.{Outcome, success, refused}
 use Rattle.study.specs.Calls.{opened_rounds, opened_size1, opened_size2, open_answer}
-use Rattle.search.specs.Search.{most_routes, search_bytes, search_answer}
+use Rattle.search.specs.Search.{search_bytes, search_answer}
 use Rattle.record.specs.Record.{longest}
 use Rattle.soundness.specs.Tally.{head_words, tally_size2, width, largest}
 use Rattle.tally.specs.Calls.{new_out, add_out}
@@ -28,9 +28,9 @@ abbrev pub tally_after : List ℕ → List ℕ → ℕ → List ℕ
 tally_after f t zero = t
 tally_after f t (suc r) = add_out (search_bytes f r) (tally_after f t r)
 
--- the search of round r, with room for any record and any routes
+-- the search of round r, with room for any record
 abbrev pub round_answer : List ℕ → ℕ → Outcome
-round_answer f r = search_answer f r longest most_routes
+round_answer f r = search_answer f r longest
 
 -- the line of round r
 abbrev pub round_line : List ℕ → ℕ → List ℕ

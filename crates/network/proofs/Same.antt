@@ -14,7 +14,7 @@ module _ (arcs : List Arc) (s t : ℕ) (c : ℕ → Pair) where
   with-node g = record { arcs = arcs; node = g; arc = c; source = s; target = t }
 
   module _ (size : ℕ) (g h : ℕ → Pair) (same : (v : ℕ) → v < size → g v ≡ h v) (into : (k : Arc) → k ∈ arcs → k.to < size) where
-    pub walk_same : (u v : ℕ) (ks : List Arc) → u < size → Walk arcs u v ks → pair_on (with-node g) u ks ≡ pair_on (with-node h) u ks
+    walk_same : (u v : ℕ) (ks : List Arc) → u < size → Walk arcs u v ks → pair_on (with-node g) u ks ≡ pair_on (with-node h) u ks
     walk_same u v [] b w = same u b
     walk_same u v (k ∷ ks) b w = ap₂ (λ p q. min_pair p (min_pair (c k.place) q)) (same u b) (walk_same k.to v ks (into k w.0) w.2)
 

@@ -10,9 +10,6 @@
 --   `graph_network`            of the `Graph` that the search walks: arcs in chains and an array of capacities (relax/specs/Steps.antt)
 --     | `settled-hold`, `all-collected`   labels say where it holds, the sweep collects its front (labels, sweep/proofs)
 --   the record                `search_bytes` (search/specs/Search.antt)
--- AND HOW A ROUTE COMES BACK (02, S-6): the next nodes from the source are a route of `graph_network` with the pair that is collected (`chain-route`,
--- `chain-pair`, relax/proofs/Reaches.antt), so of `order_network` (`shown-are`, search/proofs/Rounds.antt), which is `split_round` (`network-is`); without the
--- nodes that stand for arcs it is a route of the study with that pair (`listed-route`, split/proofs/Middles.antt)
 -- Walks and routes (document 01, "Positions, routes and the search"): chains of arcs, the pair of a route, and all routes by enumeration.
 use Rattle.std.specs.Prelude.{◌≡◌, ◌&&◌, cond, List, [], ◌∷◌, ◌++◌, map, ℕ, zero, suc, eqb, length}
 use Rattle.laws.specs.Members.{◌∈◌, keep, concat_map, member, without}

@@ -7,7 +7,6 @@ use Rattle.plan.specs.Plan.{Plan, searched, series, parallel}
 -- A CALL IN VAIN: it was lent the slice s, was refused, and left u
 pub data Vain : List ℕ → List ℕ → Type 0 where
   search : (c : call.SearchCall) (n : ℕ) → call.search_result c ≡ refused n → Vain (call.search_lent c) (call.search_left c)
-  routes : (c : call.SearchCall) (n : ℕ) → call.search_result c ≡ refused n → Vain (call.search_routes_lent c) (call.search_routes_left c)
   row : (c : call.SeriesCall) (n : ℕ) → call.series_result c ≡ refused n → Vain (call.series_lent c) (call.series_left c)
   side : (c : call.ParallelCall) (n : ℕ) → call.parallel_result c ≡ refused n → Vain (call.parallel_lent c) (call.parallel_left c)
   fresh : (c : call.NewCall) (n : ℕ) → call.new_result c ≡ refused n → Vain (call.new_lent c) (call.new_left c)

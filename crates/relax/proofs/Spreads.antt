@@ -12,8 +12,8 @@ use borrow.Author.Tests.{le-leb, lt-leb}
 use Rattle.limits.specs.Limits.{max_position}
 use Rattle.laws.specs.Tests.{order, equal}
 use Rattle.chains.specs.Steps.{from_at, to_at, start_at, more_at, Linked, max_elements, max_links}
-use Rattle.relax.specs.Steps.{Reaches, Graph, graph_network, low, Relaxed, Ripe, Why, relaxed, piled, waits, left, Marked, mark_at, growth, Work, Kept, Lent}
-use Rattle.relax.proofs.Reaches.{reaches-raise}
+use Rattle.relax.specs.Steps.{Walked, Graph, graph_network, low, Relaxed, Ripe, Why, relaxed, piled, waits, left, Marked, mark_at, growth, Work, Kept, Lent}
+use Rattle.relax.proofs.Labels.{held-raise}
 use Rattle.relax.proofs.Arcs.{arcs-in}
 
 -- ---- the count of low labels
@@ -50,22 +50,21 @@ grown-one l c x e = go (leb l c && leb x e)
 
 -- ---- an arc that raises nothing is relaxed, and passed
 module _ {f : Graph} {size : ℕ} {links : List ℕ} (ch : Linked size f.arcs links)
-    {a l : ℕ} {d nx stack wait : List ℕ} {top v i : ℕ} (w : Work f a l d nx stack wait top v i) (p : ℕ) (is : i ≡ suc p) where
+    {a l : ℕ} {d stack wait : List ℕ} {top v i : ℕ} (w : Work f a l d stack wait top v i) (p : ℕ) (is : i ≡ suc p) where
   arrives : to_at f.arcs p ≡ v
   arrives = let e : p ≡ i - 1 = omega arith in ap (to_at f.arcs) e ∙ (w.going (omega arith)).2
 
   down : more_at size links p < i
   down = ⊎_elim (λ le. omega arith) (λ lt. omega (arith, ch.back p (more_at size links p - 1) (omega (arith, (w.going (omega arith)).1)) (omega arith))) (order (more_at size links p) 0)
 
-  pass : min l (get_or f.cap (from_at f.arcs p) 0) ≤ get_or d (from_at f.arcs p) 0 → Work f a l d nx stack wait top v (more_at size links p)
+  pass : min l (get_or f.cap (from_at f.arcs p) 0) ≤ get_or d (from_at f.arcs p) 0 → Work f a l d stack wait top v (more_at size links p)
   pass q =
       record {
         laid = w.laid;
         long = w.long;
-        long-next = w.long-next;
         short = w.short;
         long-wait = w.long-wait;
-        reaches = w.reaches;
+        held = w.held;
         early = w.early;
         some = w.some;
         high = w.high;
@@ -89,7 +88,7 @@ module _ {f : Graph} {size : ℕ} {links : List ℕ} (ch : Linked size f.arcs li
           (λ lt. left e (ch.gap j p lt (omega (arith, (w.going (omega arith)).1)) (e ∙ sym arrives))) (order p j)
 
 -- ---- the start u of the arc numbered p is raised to c
-module _ {f : Graph} {a l : ℕ} {d nx stack wait : List ℕ} {top v i : ℕ} (w : Work f a l d nx stack wait top v i) (p : ℕ) (is : i ≡ suc p)
+module _ {f : Graph} {a l : ℕ} {d stack wait : List ℕ} {top v i : ℕ} (w : Work f a l d stack wait top v i) (p : ℕ) (is : i ≡ suc p)
     (u : ℕ) (is-u : u ≡ from_at f.arcs p) (c : ℕ) (is_c : c ≡ min l (get_or f.cap u 0)) (rise : get_or d u 0 < c) where
   in-arcs : p < length f.arcs
   in-arcs = omega (arith, (w.going (omega arith)).1)
@@ -124,20 +123,16 @@ module _ {f : Graph} {a l : ℕ} {d nx stack wait : List ℕ} {top v i : ℕ} (w
         full = m.full;
       }
 
-  reaches : Reaches (graph_network f) a (λ x. get_or (set d u c) x 0) (λ x. get_or (set nx u v) x 0)
-  reaches =
+  held : Walked (graph_network f) a (λ v. get_or (set d u c) v 0)
+  held =
       let g = w.going (omega arith) in
       let e : to_at f.arcs p ≡ v = let e : p ≡ i - 1 = omega arith in ap (to_at f.arcs) e ∙ g.2 in
       let k = arcs-in f.arcs p in-arcs in
       let ku : k.0.from ≡ u = k.2 ∙ sym is-u in
       let kv : k.0.to ≡ v = k.3 ∙ e in
       let at-v : get_or d k.0.to 0 ≡ l = ap (λ x. get_or d x 0) kv ∙ g.0.at in
-      reaches-raise (graph_network f) a (λ x. get_or d x 0) (λ x. get_or nx x 0) (λ x. get_or (set d u c) x 0) (λ x. get_or (set nx u v) x 0) w.reaches k.0 k.1
-      (λ x n. other x (λ q. n (q ∙ sym ku))) (λ x n. get_or-set_other nx u x v 0 (λ q. n (q ∙ sym ku)))
-      (ap (λ x. get_or (set nx u v) x 0) ku ∙ get_or-set_same nx u v 0 (omega (arith, node, w.long-next)) ∙ sym kv)
-      (λ q. omega (arith, w.at-t, rise, is_c, ap (λ x. get_or d x 0) (sym ku ∙ q), ap (λ x. get_or f.cap x 0) (sym ku ∙ q)))
-      (subst (λ x. a < get_or f.entry x 0) (sym kv) g.0.in-it) (omega (arith, w.early, w.laid.small1))
-      (omega (arith, at-u, rise, ap (λ x. get_or (set d u c) x 0) ku, ap (λ x. get_or d x 0) ku))
+      held-raise (graph_network f) a (λ v. get_or d v 0) (λ v. get_or (set d u c) v 0) w.held k.0 k.1 (λ x n. other x (λ q. n (q ∙ sym ku)))
+      (subst (λ x. a < get_or f.entry x 0) (sym kv) g.0.in-it) (omega (arith, w.early, w.laid.small1)) (omega (arith, w.some))
       (omega (arith, at-u, is_c, w.high, w.laid.small2, ap (λ x. get_or (set d u c) x 0) ku, ap (λ x. get_or f.cap x 0) ku))
 
   module _ (stack' wait' : List ℕ) (top' : ℕ)
@@ -149,15 +144,14 @@ module _ {f : Graph} {a l : ℕ} {d nx stack wait : List ℕ} {top v i : ℕ} (w
       (flags : (x : ℕ) → (get_or wait x 0 ≡ 0 → ⊥) → get_or wait' x 0 ≡ 0 → ⊥)
       (mark' : Marked f (set d u c) wait')
       (new : (j : ℕ) → a < get_or f.entry (to_at f.arcs j) 0 → to_at f.arcs j ≡ u → Why f l (set d u c) stack' wait' top' v i j) where
-    raised : Work f a l (set d u c) (set nx u v) stack' wait' top' v i
+    raised : Work f a l (set d u c) stack' wait' top' v i
     raised =
         record {
           laid = w.laid;
           long = rw length-set w.long;
-          long-next = rw length-set w.long-next;
           short = rw length-set w.short;
           long-wait = long;
-          reaches = reaches;
+          held = held;
           early = w.early;
           some = w.some;
           high = w.high;
@@ -201,14 +195,14 @@ module _ {f : Graph} {a l : ℕ} {d nx stack wait : List ℕ} {top v i : ℕ} (w
   spare x y pos h = mark x y pos (sym (get_or-set_other wait 0 x (u + 1) 0 (omega arith)) ∙ h)
 
   -- not in yet: the label is kept
-  kept_back : l ≤ c → get_or f.entry u 0 ≤ a → Work f a l (set d u c) (set nx u v) stack₁ (set wait 0 (u + 1)) top v i
+  kept_back : l ≤ c → get_or f.entry u 0 ≤ a → Work f a l (set d u c) stack₁ (set wait 0 (u + 1)) top v i
   kept_back g h =
       raised stack₁ (set wait 0 (u + 1)) top (rw length-set w.long-wait) (omega (arith, w.fits, low-grow l u c d in-d (omega arith))) kept (omega arith) (λ k h m. absurd (omega arith))
       (λ x. flagged 0 x in-wait.1) spare
       (λ j e q. absurd (omega (arith, ap (λ k. get_or f.entry k 0) q)))
 
   -- a class 2 node of a lower position: its level waits
-  deferred : c < l → Work f a l (set d u c) (set nx u v) stack₁ (set wait c (u + 1)) top v i
+  deferred : c < l → Work f a l (set d u c) stack₁ (set wait c (u + 1)) top v i
   deferred h =
       let wait' = set wait c (u + 1) in
       let now : get_or wait' c 0 ≡ u + 1 = get_or-set_same wait c (u + 1) 0 in-wait.0 in
@@ -224,7 +218,7 @@ module _ {f : Graph} {a l : ℕ} {d nx stack wait : List ℕ} {top v i : ℕ} (w
       waits (record { below = omega arith; full = ap (λ k. get_or f.cap k 0) q ∙ omega arith ∙ sym r; flag = λ z. omega (arith, now, ap (λ k. get_or wait' k 0) r) }))
 
   -- in, at this level: pushed
-  pushed : l ≤ c → a < get_or f.entry u 0 → length d ≤ length stack → Work f a l (set d u c) (set nx u v) stack₁ (set wait 0 (u + 1)) (top + 1) v i
+  pushed : l ≤ c → a < get_or f.entry u 0 → length d ≤ length stack → Work f a l (set d u c) stack₁ (set wait 0 (u + 1)) (top + 1) v i
   pushed h e r =
       let now : get_or stack₁ top 0 ≡ u = get_or-set_same stack top u 0 (omega (arith, room)) in
       raised stack₁ (set wait 0 (u + 1)) (top + 1) (rw length-set w.long-wait) (omega (arith, w.fits, low-set l u c d in-d (omega arith) h)) kept (omega arith)
@@ -232,16 +226,16 @@ module _ {f : Graph} {a l : ℕ} {d nx stack wait : List ℕ} {top v i : ℕ} (w
       (λ x. flagged 0 x in-wait.1) spare (λ j e q. piled top (omega arith) (now ∙ sym q))
 
   -- A RAISE, whichever it is: x is a + 1
-  raise : (x : ℕ) → x ≡ suc a → length d ≤ length stack → Work f a l (set d u c) (set nx u v) stack₁ (set wait (mark_at l c) (u + 1)) (top + growth l c x (get_or f.entry u 0)) v i
+  raise : (x : ℕ) → x ≡ suc a → length d ≤ length stack → Work f a l (set d u c) stack₁ (set wait (mark_at l c) (u + 1)) (top + growth l c x (get_or f.entry u 0)) v i
   raise x is_x r =
       ⊎_elim
       (λ le.
       ⊎_elim (λ in-it. subst₂ at (sym (mark-none le)) (sym (grows le (omega arith))) (pushed le (omega arith) r))
-      (λ out. subst₂ at (sym (mark-none le)) (sym (stays x le out)) (subst (λ n. Work f a l (set d u c) (set nx u v) stack₁ (set wait 0 (u + 1)) n v i) zero_more (kept_back le (omega arith)))) (order x (get_or f.entry u 0)))
-      (λ lt. subst₂ at (sym (mark-some lt)) (sym (waits-on lt)) (subst (λ n. Work f a l (set d u c) (set nx u v) stack₁ (set wait c (u + 1)) n v i) zero_more (deferred lt))) (order l c)
+      (λ out. subst₂ at (sym (mark-none le)) (sym (stays x le out)) (subst (λ n. Work f a l (set d u c) stack₁ (set wait 0 (u + 1)) n v i) zero_more (kept_back le (omega arith)))) (order x (get_or f.entry u 0)))
+      (λ lt. subst₂ at (sym (mark-some lt)) (sym (waits-on lt)) (subst (λ n. Work f a l (set d u c) stack₁ (set wait c (u + 1)) n v i) zero_more (deferred lt))) (order l c)
     where
       at : ℕ → ℕ → Type 0
-      at k g = Work f a l (set d u c) (set nx u v) stack₁ (set wait k (u + 1)) (top + g) v i
+      at k g = Work f a l (set d u c) stack₁ (set wait k (u + 1)) (top + g) v i
 
       subst₂ : (P : ℕ → ℕ → Type 0) {p q r s : ℕ} → p ≡ q → r ≡ s → P p r → P q s
       subst₂ P {p} {q} {r} {s} e g h = subst (λ k. P q k) g (subst (λ k. P k r) e h)
@@ -265,32 +259,32 @@ module _ {f : Graph} {a l : ℕ} {d nx stack wait : List ℕ} {top v i : ℕ} (w
       waits-on h = rw (lt-leb l c h)
 
 -- ---- the loop
-pub record Spreading (f : Graph) (capacities links : List ℕ) (a l : ℕ) (d₀ nx₀ stack₀ wait₀ : List ℕ) (top₀ : ℕ) (d nx stack wait : List ℕ) (top v i : ℕ) : Type 0 where
+pub record Spreading (f : Graph) (capacities links : List ℕ) (a l : ℕ) (d₀ stack₀ wait₀ : List ℕ) (top₀ : ℕ) (d stack wait : List ℕ) (top v i : ℕ) : Type 0 where
   -- the labels while the chain is followed
-  pub work : Work f a l d nx stack wait top v i
+  pub work : Work f a l d stack wait top v i
   -- what they are to those at the start
-  pub kept : Kept l d₀ nx₀ stack₀ wait₀ top₀ d nx stack wait top
+  pub kept : Kept l d₀ stack₀ wait₀ top₀ d stack wait top
   -- what the slices hold
   pub lent : Lent f capacities links
   -- the stack holds every node
   pub room : length d ≤ length stack
 
-module _ {f : Graph} {capacities links : List ℕ} {a l : ℕ} {d₀ nx₀ stack₀ wait₀ : List ℕ} {top₀ : ℕ} {d nx stack wait : List ℕ} {top v i : ℕ}
-    (s : Spreading f capacities links a l d₀ nx₀ stack₀ wait₀ top₀ d nx stack wait top v i) (p : ℕ) (is : i ≡ suc p) where
+module _ {f : Graph} {capacities links : List ℕ} {a l : ℕ} {d₀ stack₀ wait₀ : List ℕ} {top₀ : ℕ} {d stack wait : List ℕ} {top v i : ℕ}
+    (s : Spreading f capacities links a l d₀ stack₀ wait₀ top₀ d stack wait top v i) (p : ℕ) (is : i ≡ suc p) where
   pub place : (p < length f.arcs) × (length capacities / 2 + 2 * p + 1 < length links) × (length links ≤ max_links)
   place = omega (arith, (s.work.going (omega arith)).1, s.lent.chains.long, s.lent.chains.short)
 
-  pub at-node : (u : ℕ) → u ≡ from_at f.arcs p → (u < length f.entry) × (length capacities / 2 + u < length capacities) × (u < length d) × (u < length nx) × (u < max_elements)
-  at-node u is-u = let h : u < length f.entry = rw is-u (s.work.laid.ends p place.0).0 in omega (arith, h, s.work.long, s.work.long-next, s.lent.long, s.work.laid.few)
+  pub at-node : (u : ℕ) → u ≡ from_at f.arcs p → (u < length f.entry) × (length capacities / 2 + u < length capacities) × (u < length d) × (u < max_elements)
+  at-node u is-u = let h : u < length f.entry = rw is-u (s.work.laid.ends p place.0).0 in omega (arith, h, s.work.long, s.lent.long, s.work.laid.few)
 
   -- what the code reads there
   pub start_is : start_at (length capacities / 2) links p ≡ from_at f.arcs p
   start_is = s.lent.chains.starts p place.0
 
 -- a turn: the arc numbered p, what follows it in its chain, its start u, and what the level gives u
-pub record Turn (f : Graph) (capacities links : List ℕ) (a l : ℕ) (d₀ nx₀ stack₀ wait₀ : List ℕ) (top₀ : ℕ) (d nx stack wait : List ℕ) (top v i p m u c : ℕ) : Type 0 where
+pub record Turn (f : Graph) (capacities links : List ℕ) (a l : ℕ) (d₀ stack₀ wait₀ : List ℕ) (top₀ : ℕ) (d stack wait : List ℕ) (top v i p m u c : ℕ) : Type 0 where
   -- the labels before the arc
-  pub state : Spreading f capacities links a l d₀ nx₀ stack₀ wait₀ top₀ d nx stack wait top v i
+  pub state : Spreading f capacities links a l d₀ stack₀ wait₀ top₀ d stack wait top v i
   -- p is the arc's number
   pub is-p : i ≡ suc p
   -- m is the next in the chain
@@ -300,22 +294,22 @@ pub record Turn (f : Graph) (capacities links : List ℕ) (a l : ℕ) (d₀ nx�
   -- c is what u would be raised to
   pub is-raise : c ≡ min l (get_or capacities (length capacities / 2 + u) 0)
 
-module _ {f : Graph} {capacities links : List ℕ} {a l : ℕ} {d₀ nx₀ stack₀ wait₀ : List ℕ} {top₀ : ℕ} {d nx stack wait : List ℕ} {top v i p m u c : ℕ}
-    (t : Turn f capacities links a l d₀ nx₀ stack₀ wait₀ top₀ d nx stack wait top v i p m u c) where
+module _ {f : Graph} {capacities links : List ℕ} {a l : ℕ} {d₀ stack₀ wait₀ : List ℕ} {top₀ : ℕ} {d stack wait : List ℕ} {top v i p m u c : ℕ}
+    (t : Turn f capacities links a l d₀ stack₀ wait₀ top₀ d stack wait top v i p m u c) where
   pub falls : m < i
   falls = omega (arith, t.is_m, down t.state.lent.chains t.state.work p t.is-p)
 
-  pub node_in : (u < length f.entry) × (length capacities / 2 + u < length capacities) × (u < length d) × (u < length nx) × (u < max_elements)
+  pub node_in : (u < length f.entry) × (length capacities / 2 + u < length capacities) × (u < length d) × (u < max_elements)
   node_in = at-node t.state p t.is-p u t.is-u
 
   is_c : c ≡ min l (get_or f.cap u 0)
   is_c = t.is-raise ∙ ap (min l) (t.state.lent.caps u node_in.0)
 
-  on : {d₁ nx₁ stack₁ wait₁ : List ℕ} {top₁ : ℕ} → Work f a l d₁ nx₁ stack₁ wait₁ top₁ v i → c ≤ get_or d₁ u 0 → Work f a l d₁ nx₁ stack₁ wait₁ top₁ v m
-  on {d₁} w h =
+  on : {d₁ stack₁ wait₁ : List ℕ} {top₁ : ℕ} → Work f a l d₁ stack₁ wait₁ top₁ v i → c ≤ get_or d₁ u 0 → Work f a l d₁ stack₁ wait₁ top₁ v m
+  on {d₁} {stack₁} {wait₁} {top₁} w h =
       rw t.is_m (pass t.state.lent.chains w p t.is-p (subst (λ x. min l (get_or f.cap x 0) ≤ get_or d₁ x 0) t.is-u (omega (arith, h, is_c))))
 
-  pub passed : c ≤ get_or d u 0 → Spreading f capacities links a l d₀ nx₀ stack₀ wait₀ top₀ d nx stack wait top v m
+  pub passed : c ≤ get_or d u 0 → Spreading f capacities links a l d₀ stack₀ wait₀ top₀ d stack wait top v m
   passed h = record { work = on t.state.work h; kept = t.state.kept; lent = t.state.lent; room = t.state.room }
 
   module _ (rise : get_or d u 0 < c) where
@@ -345,17 +339,17 @@ module _ {f : Graph} {capacities links : List ℕ} {a l : ℕ} {d₀ nx₀ stack
 
     -- the label is raised
     pub again : (k g x : ℕ) → k ≡ mark_at l c → g ≡ growth l c x (get_or capacities u 0) → x ≡ suc a
-        → Spreading f capacities links a l d₀ nx₀ stack₀ wait₀ top₀ (set d u c) (set nx u v) (set stack top (start_at (length capacities / 2) links p)) (set wait k (start_at (length capacities / 2) links p + 1)) (top + g) v m
+        → Spreading f capacities links a l d₀ stack₀ wait₀ top₀ (set d u c) (set stack top (start_at (length capacities / 2) links p)) (set wait k (start_at (length capacities / 2) links p + 1)) (top + g) v m
     again k g x is-k is-g is_x =
         let q = t.state in
         let e = q.lent.entries u node_in.0 in
         record {
           work = rw (is-k, is-g, e, start_is q p t.is-p, ← t.is-u) (on (raise q.work p t.is-p u t.is-u c is_c rise x is_x q.room) (omega (arith, it)));
-          kept = record { long = length-set d u c ∙ q.kept.long; long-next = length-set nx u v ∙ q.kept.long-next; long-stack = length-set stack top (start_at (length capacities / 2) links p) ∙ q.kept.long-stack; long-wait = length-set wait k (start_at (length capacities / 2) links p + 1) ∙ q.kept.long-wait; less = omega (arith, q.kept.less, less x) };
+          kept = record { long = length-set d u c ∙ q.kept.long; long-stack = length-set stack top (start_at (length capacities / 2) links p) ∙ q.kept.long-stack; long-wait = length-set wait k (start_at (length capacities / 2) links p + 1) ∙ q.kept.long-wait; less = omega (arith, q.kept.less, less x) };
           lent = q.lent;
           room = omega (arith, q.room, length-set d u c, length-set stack top (start_at (length capacities / 2) links p));
         }
 
 -- the chain has ended
-pub idle : {f : Graph} {a l : ℕ} {d nx stack wait : List ℕ} {top v i : ℕ} → Work f a l d nx stack wait top v i → i ≡ 0 → Work f a l d nx stack wait top v 0
-idle {f} {a} {l} {d} {nx} {stack} {wait} {top} {v} w e = subst (Work f a l d nx stack wait top v) e w
+pub idle : {f : Graph} {a l : ℕ} {d stack wait : List ℕ} {top v i : ℕ} → Work f a l d stack wait top v i → i ≡ 0 → Work f a l d stack wait top v 0
+idle {f} {a} {l} {d} {stack} {wait} {top} {v} w e = subst (Work f a l d stack wait top v) e w

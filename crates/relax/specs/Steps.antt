@@ -4,42 +4,20 @@ use Rattle.limits.specs.Limits.{max_class, max_position}
 use Rattle.laws.specs.Members.{◌∈◌}
 use Rattle.front.specs.Pair.{pair_of}
 use Rattle.parts.specs.Study.{Arc}
-use Rattle.network.specs.Walk.{Network}
+use Rattle.network.specs.Walk.{Network, Walk, pair_on}
 use Rattle.chains.specs.Steps.{from_at, to_at, head_at, Linked, max_elements, max_split_arcs}
 use Rattle.relax.specs.declared.Step.{Step}
 
 -- ---- LABELS: what a number at each node says of the walks from it to the target, while the first a class 1 positions are shut
--- the arc k is v's next step, while the first a class 1 positions are shut: d are labels, nx next nodes
-pub record Hop (net : Network) (a : ℕ) (d nx : ℕ → ℕ) (v : ℕ) (k : Arc) : Type 0 where
-  -- an arc of the network
-  pub here : k ∈ net.arcs
-  -- from v
-  pub at : k.from ≡ v
-  -- to its next node
-  pub next : nx v ≡ k.to
-  -- the target has none
-  pub away : v ≡ net.target → ⊥
-  -- the next node is in
-  pub enters : a < (net.node k.to).p1.0
-  -- and so is the arc
-  pub free : a < (net.arc k.place).p1.0
-  -- v's label is at most its capacity
-  pub own : d v ≤ (net.node v).p2.0
-  -- and the arc's
-  pub wide : d v ≤ (net.arc k.place).p2.0
-  -- and the next node's label
-  pub rises : d v ≤ d k.to
-
--- the steps from v on, up to the target. That no node stands on it twice is not said: next nodes are a function, so a chain that ends visits none twice
-abbrev pub Chain : (net : Network) (a : ℕ) (d nx : ℕ → ℕ) → ℕ → List Arc → Type 0
-Chain net a d nx v [] = (v ≡ net.target) × (d v ≤ (net.node v).p2.0)
-Chain net a d nx v (k ∷ ks) = Hop net a d nx v k × Chain net a d nx k.to ks
-
--- from each node with a label the next nodes reach the target
-abbrev pub Reaches : (net : Network) (a : ℕ) (d nx : ℕ → ℕ) → Type 0
-Reaches net a d nx = (v : ℕ) → 0 < d v → (ks : List Arc) × Chain net a d nx v ks
-
 module _ (net : Network) (a : ℕ) where
+  -- a walk from v to t that is worth y; v itself may still wait to enter
+  abbrev pub Good : ℕ → ℕ → Type 0
+  Good v y = (ks : List Arc) × Walk net.arcs v net.target ks × (min (suc a) (net.node v).p1.0 ≤ (pair_on net v ks).p1.0) × (y ≤ (pair_on net v ks).p2.0)
+
+  -- each label above 0 has a walk
+  abbrev pub Walked : (ℕ → ℕ) → Type 0
+  Walked d = (v : ℕ) → 0 < d v → Good v (d v)
+
   -- what is needed of an end, while both ends are in
   abbrev pub In : Type 0
   In = (a < (net.node net.source).p1.0) × (a < (net.node net.target).p1.0)
@@ -172,19 +150,17 @@ abbrev pub Marked : Graph → List ℕ → List ℕ → Type 0
 Marked f d wait = (c w : ℕ) → 0 < c → get_or wait c 0 ≡ suc w → Named f d c w
 
 -- the labels while level l spreads after a failures, with v at work at arc i - 1 of its chain (i = 0: none)
-pub record Work (f : Graph) (a l : ℕ) (d nx stack wait : List ℕ) (top v i : ℕ) : Type 0 where
+pub record Work (f : Graph) (a l : ℕ) (d stack wait : List ℕ) (top v i : ℕ) : Type 0 where
   -- what the search is given
   pub laid : Laid f
   -- every node has a label
   pub long : length f.entry ≤ length d
-  -- and a next node
-  pub long-next : length f.entry ≤ length nx
   -- no more labels than nodes can be
   pub short : length d ≤ max_elements
   -- every level has a mark
   pub long-wait : max_position + 1 ≤ length wait
-  -- from each node with a label the next nodes reach the target
-  pub reaches : Reaches (graph_network f) a (λ v. get_or d v 0) (λ v. get_or nx v 0)
+  -- each label has a walk to the target
+  pub held : Walked (graph_network f) a (λ v. get_or d v 0)
   -- no more failures than class 1 has
   pub early : a ≤ f.n1
   -- the level is above 0
@@ -216,19 +192,17 @@ abbrev pub start : Graph → ℕ
 start f = min (suc f.n1) (min (get_or f.entry f.source 0) (get_or f.entry f.target 0))
 
 -- the labels after a failures, settled: nothing is left to relax
-pub record Settled (f : Graph) (a : ℕ) (d nx wait : List ℕ) : Type 0 where
+pub record Settled (f : Graph) (a : ℕ) (d wait : List ℕ) : Type 0 where
   -- what the search is given
   pub laid : Laid f
   -- every node has a label
   pub long : length f.entry ≤ length d
-  -- and a next node
-  pub long-next : length f.entry ≤ length nx
   -- no more labels than nodes can be
   pub short : length d ≤ max_elements
   -- every level has a mark
   pub long-wait : max_position + 1 ≤ length wait
-  -- from each node with a label the next nodes reach the target
-  pub reaches : Reaches (graph_network f) a (λ v. get_or d v 0) (λ v. get_or nx v 0)
+  -- each label has a walk to the target
+  pub held : Walked (graph_network f) a (λ v. get_or d v 0)
   -- once both ends are in, the target has its capacity
   pub at-t : a < start f → get_or f.cap f.target 0 ≤ get_or d f.target 0
   -- before that there is no label
@@ -239,11 +213,9 @@ pub record Settled (f : Graph) (a : ℕ) (d nx wait : List ℕ) : Type 0 where
   pub relaxed : (j : ℕ) → j < length f.arcs → a < get_or f.entry (to_at f.arcs j) 0 → Relaxed f d j
 
 -- a spread keeps the lengths, and each push lowers the count of low labels
-pub record Kept (l : ℕ) (d₀ nx₀ stack₀ wait₀ : List ℕ) (top₀ : ℕ) (d nx stack wait : List ℕ) (top : ℕ) : Type 0 where
+pub record Kept (l : ℕ) (d₀ stack₀ wait₀ : List ℕ) (top₀ : ℕ) (d stack wait : List ℕ) (top : ℕ) : Type 0 where
   -- as many labels
   pub long : length d ≡ length d₀
-  -- as many next nodes
-  pub long-next : length nx ≡ length nx₀
   -- the stack as long
   pub long-stack : length stack ≡ length stack₀
   -- as many marks
@@ -264,11 +236,11 @@ pub record Lent (f : Graph) (capacities links : List ℕ) : Type 0 where
   pub chains : Linked (length capacities / 2) f.arcs links
 
 -- what `spread` is given: a node at work at the head of its chain
-pub record Ready (f : Graph) (capacities links : List ℕ) (at : Step) (d nx stack wait : List ℕ) : Type 0 where
+pub record Ready (f : Graph) (capacities links : List ℕ) (at : Step) (d stack wait : List ℕ) : Type 0 where
   -- what the search is given
   pub lent : Lent f capacities links
   -- the labels
-  pub work : Work f (at.x.0 - 1) at.level.0 d nx stack wait at.top at.node (head_at links at.node)
+  pub work : Work f (at.x.0 - 1) at.level.0 d stack wait at.top at.node (head_at links at.node)
   -- x is a position
   pub some : 0 < at.x.0
   -- the node at work is one
@@ -277,13 +249,13 @@ pub record Ready (f : Graph) (capacities links : List ℕ) (at : Step) (d nx sta
   pub room : length d ≤ length stack
 
 -- what `drain` and `flood` are given: a node with the level for a label
-pub record Floodable (f : Graph) (capacities links : List ℕ) (at : Step) (d nx stack wait : List ℕ) : Type 0 where
+pub record Floodable (f : Graph) (capacities links : List ℕ) (at : Step) (d stack wait : List ℕ) : Type 0 where
   -- what the search is given
   pub lent : Lent f capacities links
   -- its source
   pub source : at.source ≡ f.source
   -- the labels, with the node alone on the stack
-  pub work : Work f (at.x.0 - 1) at.level.0 d nx (at.node ∷ []) wait 1 0 0
+  pub work : Work f (at.x.0 - 1) at.level.0 d (at.node ∷ []) wait 1 0 0
   -- x is a position
   pub some : 0 < at.x.0
   -- both ends are in
@@ -291,11 +263,9 @@ pub record Floodable (f : Graph) (capacities links : List ℕ) (at : Step) (d nx
   -- the stack holds every node
   pub room : length d ≤ length stack
 
-pub record Lengths (d₀ nx₀ stack₀ wait₀ d nx stack wait : List ℕ) : Type 0 where
+pub record Lengths (d₀ stack₀ wait₀ d stack wait : List ℕ) : Type 0 where
   -- as many labels
   pub labels : length d ≡ length d₀
-  -- as many next nodes
-  pub nexts : length nx ≡ length nx₀
   -- the stack as long
   pub pile : length stack ≡ length stack₀
   -- as many marks

@@ -50,24 +50,21 @@ fn growth(level: Pos2, c: Pos2, x: Pos1, entry: Pos1) -> usize
     0
 }
 
-// The labels of the nodes with an arc into the node at work, raised to what its level gives them; the
-// node at work is then their next node.
+// The labels of the nodes with an arc into the node at work, raised to what its level gives them.
 pub fn spread(
     capacities: &[u8],
     links: &[u16],
     at: Step,
     label: &mut [u8],
-    next: &mut [u16],
     stack: &mut [u16],
     wait: &mut [u16],
 ) -> usize
-    requires { (f : Graph) × Ready f capacities.now links.now at label.old next.old stack.old wait.old }
+    requires { (f : Graph) × Ready f capacities.now links.now at label.old stack.old wait.old }
     ensures work { (f : Graph)
-        → Ready f capacities.now links.now at label.old next.old stack.old
-        wait.old
-        → Work f (at.x.0 - 1) at.level.0 label.new next.new stack.new wait.new result at.node 0 }
-    ensures kept { Kept at.level.0 label.old next.old stack.old wait.old at.top
-        label.new next.new stack.new wait.new result }
+        → Ready f capacities.now links.now at label.old stack.old wait.old
+        → Work f (at.x.0 - 1) at.level.0 label.new stack.new wait.new result at.node 0 }
+    ensures kept { Kept at.level.0 label.old stack.old wait.old at.top label.new
+        stack.new wait.new result }
 {
     let size = capacities.len() / 2;
     let mut top = at.top;
@@ -83,7 +80,6 @@ pub fn spread(
         }
         // decided without a jump: what is stored past the stack or at mark 0 is never read
         label[u] = c.0;
-        next[u] = at.node;
         stack[top] = from;
         wait[mark_at(at.level, c)] = from + 1;
         top += growth(at.level, c, at.x, Pos1(capacities[u]));

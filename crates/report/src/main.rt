@@ -15,7 +15,6 @@ use buffer::LONGEST;
 use libc::STDIN_FILENO;
 use lines::LINE;
 use output::Sent;
-use search::MOST_ROUTES;
 use soundness::LARGEST;
 
 // A line in the buffer, and whether another follows.
@@ -44,8 +43,7 @@ fn round_line(file: &[u8], round: usize, tally: &mut [u32], out: &mut [u8]) -> L
     ensures tally { tally.new ≡ round_tally file.now round tally.old }
 {
     let mut record = [0u8; LONGEST];
-    let mut routes = [0u8; MOST_ROUTES];
-    match search::search(file, round, &mut record, &mut routes) {
+    match search::search(file, round, &mut record) {
         Written::Refused(r) => Line {
             length: lines::refused_line(answer::number(r) as u64, out),
             more: false,

@@ -7,7 +7,7 @@ use Rattle.sections.specs.File.{trailer}
 use Rattle.study.specs.Calls.{bad_orders, open_answer, check_answer, lookup_part}
 use Rattle.writer.specs.Writer.{Given, given, study_bytes, write_answer, write_out}
 use Rattle.record.specs.Record.{is_record, record_holds}
-use Rattle.search.specs.Search.{routes_room, search_answer, search_out}
+use Rattle.search.specs.Search.{search_answer, search_out}
 use Rattle.convert.specs.Convert.{convert_answer, convert_out}
 use Rattle.chance.specs.Chance.{sum_e, scale_d}
 use Rattle.soundness.specs.Tally.{cell, state_answer}
@@ -77,13 +77,6 @@ ten = 9 ∷ 9 ∷ 9 ∷ 9 ∷ 9 ∷ 9 ∷ 9 ∷ 9 ∷ 9 ∷ 9 ∷ []
 abbrev pub eight : List ℕ
 eight = 9 ∷ 9 ∷ 9 ∷ 9 ∷ 9 ∷ 9 ∷ 9 ∷ 9 ∷ []
 
--- slices for routes: as many bytes as are asked for the ring's, and one fewer
-abbrev pub twenty_one : List ℕ
-twenty_one = replicate 21 9
-
-abbrev pub twenty : List ℕ
-twenty = replicate 20 9
-
 pub record Table : Type 0 where
   -- R1 written: 63 bytes, dN 31, dA 25, dM 4
   pub r1-answer : write_answer (ring_with (1 ∷ 0 ∷ 1 ∷ 0 ∷ [])) 63 ≡ success (63 ∷ [])
@@ -106,14 +99,10 @@ pub record Table : Type 0 where
   pub r1-converts-short : convert_answer old_ring_file 62 ≡ refused 15
   pub r1-converts-stays : convert_out old_ring_file (replicate 62 9) ≡ replicate 62 9
   -- R2 front record: 2 2 3 3 1 2 2 1 3. It holds at (2, 0), not at (2, 1)
-  pub r2-answer : search_answer ring_file 0 10 21 ≡ success (9 ∷ [])
-  pub r2-out : search_out ring_file 0 21 ten ≡ 2 ∷ 2 ∷ 3 ∷ 3 ∷ 1 ∷ 2 ∷ 2 ∷ 1 ∷ 3 ∷ 9 ∷ []
-  pub r2-ten : search_answer ring_file 1 0 0 ≡ refused 10
-  pub r2-short : search_answer ring_file 0 8 21 ≡ refused 15
-  -- its routes (Routes.antt): 21 bytes are asked for, of 13 that they take
-  pub r2-routes-room : routes_room ring_file 0 ≡ 21
-  pub r2-routes-short : search_answer ring_file 0 10 20 ≡ refused 15
-  pub r2-stays : search_out ring_file 0 20 ten ≡ ten
+  pub r2-answer : search_answer ring_file 0 10 ≡ success (9 ∷ [])
+  pub r2-out : search_out ring_file 0 ten ≡ 2 ∷ 2 ∷ 3 ∷ 3 ∷ 1 ∷ 2 ∷ 2 ∷ 1 ∷ 3 ∷ 9 ∷ []
+  pub r2-ten : search_answer ring_file 1 0 ≡ refused 10
+  pub r2-short : search_answer ring_file 0 8 ≡ refused 15
   pub r2-record : is_record ring ≡ true
   pub r2-holds : record_holds ring 2 0 ≡ true
   pub r2-fails : record_holds ring 2 1 ≡ false
@@ -150,10 +139,10 @@ pub record Table : Type 0 where
   pub r8-no-rounds : report_text no_rounds ≡ ascii "sizes 0 0 rounds 0\ncount 0: 0\n"
   -- R9 round 1 1 1 0: 11
   pub r9 : write_answer (ring_with (1 ∷ 1 ∷ 1 ∷ 0 ∷ [])) 63 ≡ refused 11
-  pub r9-search : search_answer (study_bytes (ring_with (1 ∷ 1 ∷ 1 ∷ 0 ∷ []))) 0 10 21 ≡ refused 11
-  -- R10 no arcs: record 2 2 0, and no routes
-  pub r10-answer : search_answer no_arcs 0 10 0 ≡ success (3 ∷ [])
-  pub r10 : search_out no_arcs 0 0 ten ≡ 2 ∷ 2 ∷ 0 ∷ 9 ∷ 9 ∷ 9 ∷ 9 ∷ 9 ∷ 9 ∷ 9 ∷ []
+  pub r9-search : search_answer (study_bytes (ring_with (1 ∷ 1 ∷ 1 ∷ 0 ∷ []))) 0 10 ≡ refused 11
+  -- R10 no arcs: record 2 2 0
+  pub r10-answer : search_answer no_arcs 0 10 ≡ success (3 ∷ [])
+  pub r10 : search_out no_arcs 0 ten ≡ 2 ∷ 2 ∷ 0 ∷ 9 ∷ 9 ∷ 9 ∷ 9 ∷ 9 ∷ 9 ∷ 9 ∷ []
   -- R11 chance 1,000,000 accepted, 1,000,001 gives 14
   pub r11-weights : weights_answer 2 1000000 3 ≡ success (0 ∷ [])
   pub r11-weights-14 : weights_answer 2 1000001 0 ≡ refused 14
@@ -162,9 +151,8 @@ pub record Table : Type 0 where
   -- the formula itself, with 0^0 = 1: every node works, and E = D
   pub r11-exact : sum_e 2 2 1000000 1000000 (cell ring_tally) ≡ scale_d 2 2
   -- R12 n1 = n2 = 0 and arc 0 1: record 0 0 1 1 1
-  pub r12-answer : search_answer one_arc 0 10 3 ≡ success (5 ∷ [])
-  pub r12 : search_out one_arc 0 3 ten ≡ 0 ∷ 0 ∷ 1 ∷ 1 ∷ 1 ∷ 9 ∷ 9 ∷ 9 ∷ 9 ∷ 9 ∷ []
-  pub r12-routes-short : search_answer one_arc 0 10 2 ≡ refused 15
+  pub r12-answer : search_answer one_arc 0 10 ≡ success (5 ∷ [])
+  pub r12 : search_out one_arc 0 ten ≡ 0 ∷ 0 ∷ 1 ∷ 1 ∷ 1 ∷ 9 ∷ 9 ∷ 9 ∷ 9 ∷ 9 ∷ []
   -- the numbers: 12 before 13, 13 before 15, 15 last; p1 may be n1 + 1 and no more; no spare byte
   pub n12 : series_answer (1 ∷ 1 ∷ 0 ∷ 0 ∷ []) ring 0 ≡ refused 12
   pub n13 : series_answer (1 ∷ 1 ∷ 0 ∷ []) ring 0 ≡ refused 13
@@ -211,9 +199,6 @@ table =
       r2-out = refl;
       r2-ten = refl;
       r2-short = refl;
-      r2-routes-room = refl;
-      r2-routes-short = refl;
-      r2-stays = refl;
       r2-record = refl;
       r2-holds = refl;
       r2-fails = refl;
@@ -248,7 +233,6 @@ table =
       r11-exact = refl;
       r12-answer = refl;
       r12 = refl;
-      r12-routes-short = refl;
       n12 = refl;
       n13 = refl;
       n15 = refl;

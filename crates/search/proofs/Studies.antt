@@ -1,4 +1,4 @@
--- A round of a study: its orders by element may be searched, and what is found is the record of its front and a route behind each of its pairs.
+-- A round of a study: its orders by element may be searched, and what is found is the record of its front.
 use mathlib.Core.Path.{◌≡◌, sym, ap, ap₂, ◌∙◌, subst}
 use mathlib.Core.List.{List, map}
 use Prim.Native.Nat.{ℕ, ◌+◌, ◌-◌, ◌*◌, ◌≤◌}
@@ -6,49 +6,32 @@ use native.Mathlib.Nat.{sub-zero}
 use native.Mathlib.Omega.{arith}
 use lib.Dec.{T}
 use lib.ListN.{length, take}
-use lib.Seq.{length-take-le}
 use Rattle.limits.specs.Limits.{arc_count, max_class}
 use Rattle.laws.specs.Members.{◌∈◌}
 use Rattle.laws.specs.Tests.{T_and}
 use Rattle.front.specs.declared.Pair.{Pair}
 use Rattle.front.specs.Front.{front}
-use Rattle.front.proofs.Pairs.{numbers}
-use Rattle.front.proofs.Fronts.{front-are}
-use Rattle.record.specs.Record.{listed, record_bytes, front_bytes}
-use Rattle.record.proofs.Bytes.{paired-flat}
-use Rattle.buffer.specs.Steps.{record_in}
+use Rattle.record.specs.Record.{record_bytes, front_bytes}
 use Rattle.orders.specs.Order.{count, order1, order2, is_order}
 use Rattle.orders.proofs.Orders.{order-length}
 use Rattle.orders.proofs.Scans.{count-append}
 use Rattle.parts.specs.Study.{Study, entry_class, elements, study_elements, entries_from}
 use Rattle.parts.proofs.Scans.{entries-length}
 use Rattle.network.specs.Walk.{route_pairs}
-use Rattle.network.specs.Round.{study_size1, study_size2, round_at, round_front, round_network}
-use Rattle.network.specs.Routes.{RouteBehind}
-use Rattle.network.proofs.Rounds.{inside}
-use Rattle.split.specs.Steps.{split_arcs, split_round, element_order, round_order1, round_order2, order_network}
+use Rattle.network.specs.Round.{study_size1, study_size2, round_at, round_front}
+use Rattle.split.specs.Steps.{split_arcs, element_order, round_order1, round_order2, order_network}
 use Rattle.split.proofs.Members.{order-long}
 use Rattle.split.proofs.Arcs.{elements-long}
-use Rattle.split.proofs.Middles.{listed-route}
-use Rattle.split.proofs.Rounds.{round-long, round-splits}
-use Rattle.split.proofs.Orders.{network-is, search-front, ordered}
+use Rattle.split.proofs.Orders.{search-front, ordered}
 use Rattle.chains.specs.Steps.{split_entries}
 use Rattle.chains.proofs.Entries.{entries-split, split-few}
 use Rattle.members.specs.Steps.{ByPlace, elements_in}
 use Rattle.members.proofs.Tables.{good-places}
-use Rattle.sweep.specs.declared.Swept.{Swept}
-use Rattle.sweep.specs.Steps.{ShownOf, Routed, room_for}
-use Rattle.sweep.proofs.Listed.{routed-map}
-use Rattle.search.specs.Steps.{Searchable, OrdersSearched, RoundGiven, RoundSearched}
+use Rattle.search.specs.Steps.{Searchable, RoundGiven}
 
 -- the first n of a list, as the code has them
 pub taken : (n : ℕ) (l p q : List ℕ) → take n l ≡ p → p ≡ q → take (n - 0) l ≡ q
 taken n l p q e f = ap (λ k. take k l) (sub-zero n) ∙ e ∙ f
-
--- as many of them, so the routes have the same room
-pub room-for : (size : ℕ) {long : ℕ} (o table : List ℕ) → length o ≤ length table → room_for size (length o) ≤ long → room_for size (length (take (length o - 0) table)) ≤ long
-room-for size {long} o table l h =
-    subst (λ n. room_for size n ≤ long) (sym (ap (λ n. length (take n table)) (sub-zero (length o)) ∙ length-take-le (length o) table l)) h
 
 module _ {st : Study} {r : ℕ} {nodes arcs o1 o2 : List ℕ} {s t : ℕ} (g : RoundGiven st r nodes arcs o1 o2 s t) where
   abbrev all : List ℕ
@@ -119,7 +102,6 @@ module _ {st : Study} {r : ℕ} {nodes arcs o1 o2 : List ℕ} {s t : ℕ} (g : R
         record {
           few = g.long;
           small = omega (arith, ap length g.nodes-are, g.within.nodes-most);
-          inside = (omega (arith, ap length g.nodes-are, g.source_is, g.within.source_in), omega (arith, ap length g.nodes-are, g.target_is, g.within.target-in));
           ends = λ x m.
               let i : x ∈ st.entries = subst (λ l. x ∈ l) (sym g.entries-are) m in
               (omega (arith, ap length g.nodes-are, g.within.from_in x i), omega (arith, ap length g.nodes-are, g.within.to_in x i));
@@ -129,42 +111,12 @@ module _ {st : Study} {r : ℕ} {nodes arcs o1 o2 : List ℕ} {s t : ℕ} (g : R
           ordered = rw (arcs-are, is-a, is_b, ← g.source_is, ← g.target_is, many-are) (ordered st g.within r g.good);
         }
 
-    front-is : front_bytes (length a) (length b) (route_pairs (order_network (split_entries (length nodes) 0 (entries_from arcs)) a b s t))
+    pub found : front_bytes (length a) (length b) (route_pairs (order_network (split_entries (length nodes) 0 (entries_from arcs)) a b s t))
         ≡ record_bytes (study_size1 st) (study_size2 st) (round_front st r)
-    front-is =
+    found =
         rw (arcs-are, is-a, is_b, ← g.source_is, ← g.target_is)
         (ap₂ (λ m n. record_bytes m n (front-found)) size1 size2 ∙ ap (record_bytes (study_size1 st) (study_size2 st)) (search-front st g.within r g.good))
       where
         front-found : List Pair
         front-found = front (length (round_order1 st r)) (length (round_order2 st r))
             (route_pairs (order_network (split_arcs (length st.classes) st.entries) (round_order1 st r) (round_order2 st r) st.source st.target))
-
-    -- ---- the routes
-    -- the network that is searched is the round's split network
-    split-is : order_network (split_entries (length nodes) 0 (entries_from arcs)) a b s t ≡ split_round st r
-    split-is = rw (arcs-are, is-a, is_b, ← g.source_is, ← g.target_is) (network-is st g.within r g.good)
-
-    -- what is shown of a route that has a listed pair is a route behind it
-    route-is : (p : Pair) (vs : List ℕ) → p ∈ round_front st r → ShownOf (order_network (split_entries (length nodes) 0 (entries_from arcs)) a b s t) (length nodes) p vs → RouteBehind st r p vs
-    route-is p vs m h =
-        let k : ShownOf (split_round st r) (length st.classes) p vs = subst (λ l. ShownOf (split_round st r) (length l) p vs) (sym g.nodes-are) (subst (λ n. ShownOf n (length nodes) p vs) split-is h) in
-        let long = round-long st g.within r in
-        let f = (front-are (study_size1 st) (study_size2 st) (route_pairs (round_network st r)) (inside st r long) p).0 m in
-        let w = inside st r long p f.0 in
-        let e = numbers k.2 in
-        let l = listed-route (round-splits st g.within r) k.0 k.1 p (omega arith) (omega arith) (omega arith) f.1 in
-        (l.0, l.1, l.2, k.3 ∙ l.3)
-
-    -- WHAT THE SEARCH OF THE ORDERS FINDS is what the search of the round finds
-    pub found : {swept : Swept} {old routes : List ℕ} → OrdersSearched arcs (length nodes) a b s t swept old routes → RoundSearched st r swept old routes
-    found {swept} {routes = routes} o =
-        let net = order_network (split_entries (length nodes) 0 (entries_from arcs)) a b s t in
-        let e = o.front ∙ front-is in
-        let lists : listed (record_in swept.found) ≡ round_front st r = ap listed e ∙ paired-flat (round_front st r) in
-        record {
-          front = e;
-          routed =
-              routed-map (ShownOf net (length nodes)) (RouteBehind st r) route-is
-              (subst (λ ps. Routed (ShownOf net (length nodes)) ps routes swept.used) lists o.routed);
-          past = o.past;
-        }

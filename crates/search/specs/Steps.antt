@@ -1,19 +1,13 @@
 -- STEPS: what proofs and the contracts between our crates speak of. Nobody has to believe these: no promise to a caller cites them.
-use Rattle.std.specs.Prelude.{◌≡◌, List, ℕ, ◌+◌, ◌*◌, ◌/◌, ◌≤◌, ◌<◌, min, T, length, get_or, drop}
+use Rattle.std.specs.Prelude.{◌≡◌, List, ℕ, ◌+◌, ◌*◌, ◌/◌, ◌≤◌, ◌<◌, min, T, length, get_or}
 use Rattle.limits.specs.Limits.{max_nodes, max_arcs, arc_size, arc_count, max_class}
 use Rattle.laws.specs.Members.{◌∈◌}
-use Rattle.record.specs.Record.{listed, record_bytes, front_bytes}
-use Rattle.buffer.specs.Steps.{record_in}
 use Rattle.orders.specs.Order.{order1, order2, is_round, position}
 use Rattle.parts.specs.Study.{Entry, Study, study_elements, entries_from, WithinLimits}
-use Rattle.network.specs.Walk.{route_pairs}
-use Rattle.network.specs.Round.{study_size1, study_size2, round_at, round_front}
-use Rattle.network.specs.Routes.{RouteBehind}
-use Rattle.split.specs.Steps.{order_network, Ordered}
+use Rattle.network.specs.Round.{round_at}
+use Rattle.split.specs.Steps.{Ordered}
 use Rattle.chains.specs.Steps.{max_elements, split_entries}
 use Rattle.relax.specs.declared.Step.{Step}
-use Rattle.sweep.specs.declared.Swept.{Swept}
-use Rattle.sweep.specs.Steps.{ShownOf, Routed}
 
 -- small and middling studies: so many nodes and middles at most, and so many entries and failing elements
 abbrev pub small_size : ℕ
@@ -34,8 +28,6 @@ pub record Searchable (arcs : List ℕ) (nodes : ℕ) (o1 o2 : List ℕ) (s t : 
   pub few : length arcs ≤ arc_size * max_arcs
   -- 01: N
   pub small : nodes ≤ max_nodes
-  -- the ends are nodes
-  pub inside : (s < nodes) × (t < nodes)
   -- entries lead between nodes
   pub ends : (x : Entry) → x ∈ entries_from arcs → (x.from < nodes) × (x.to < nodes)
   -- two arcs for each entry, and two more where it may fail
@@ -45,12 +37,6 @@ pub record Searchable (arcs : List ℕ) (nodes : ℕ) (o1 o2 : List ℕ) (s t : 
   pub small2 : length o2 ≤ max_class
   -- arcs and orders are of elements
   pub ordered : Ordered (split_entries nodes 0 (entries_from arcs)) o1 o2 s t (nodes + arc_count arcs)
-
--- what the search of two orders of elements finds: the front of their network, and a route for each of its pairs
-pub record OrdersSearched (arcs : List ℕ) (nodes : ℕ) (o1 o2 : List ℕ) (s t : ℕ) (swept : Swept) (old routes : List ℕ) : Type 0 where
-  pub front : record_in swept.found ≡ front_bytes (length o1) (length o2) (route_pairs (order_network (split_entries nodes 0 (entries_from arcs)) o1 o2 s t))
-  pub routed : Routed (ShownOf (order_network (split_entries nodes 0 (entries_from arcs)) o1 o2 s t) nodes) (listed (record_in swept.found)) routes swept.used
-  pub past : drop swept.used routes ≡ drop swept.used old
 
 -- what the slice of capacities, of a length, is filled from: orders of elements that have a place in each half
 pub record Placeable (long : ℕ) (o1 o2 : List ℕ) (s t : ℕ) : Type 0 where
@@ -91,12 +77,3 @@ pub record RoundGiven (st : Study) (r : ℕ) (nodes arcs o1 o2 : List ℕ) (s t 
   pub order2-is : order2 (study_elements st) (round_at st r) ≡ o2
   pub source_is : st.source ≡ s
   pub target_is : st.target ≡ t
-
--- what its search finds
-pub record RoundSearched (st : Study) (r : ℕ) (swept : Swept) (old routes : List ℕ) : Type 0 where
-  -- the record of its front
-  pub front : record_in swept.found ≡ record_bytes (study_size1 st) (study_size2 st) (round_front st r)
-  -- and a route behind each of its pairs
-  pub routed : Routed (RouteBehind st r) (round_front st r) routes swept.used
-  -- what stands past them as it was
-  pub past : drop swept.used routes ≡ drop swept.used old

@@ -114,19 +114,20 @@ module _ (st : Study) (w : WithinLimits st) where
     abbrev found : Network
     found = order_network (split_arcs (length st.classes) st.entries) (round_order1 st r) (round_order2 st r) st.source st.target
 
-    -- the network of these orders is the round's split network
-    pub network-is : order_network (split_arcs (length st.classes) st.entries) (round_order1 st r) (round_order2 st r) st.source st.target ≡ split_round st r
-    network-is =
-        let at : (ℕ → Pair) → (ℕ → Pair) → Network = λ g h. record { arcs = found.arcs; node = g; arc = h; source = st.source; target = st.target } in
+    pairs-are : route_pairs found ≡ route_pairs (split_round st r)
+    pairs-are =
+        let o1 = round_order1 st r in
+        let o2 = round_order2 st r in
+        let with-these : (ℕ → Pair) → (ℕ → Pair) → List Pair = λ g h. route_pairs (record { arcs = found.arcs; node = g; arc = h; source = st.source; target = st.target }) in
         let nodes : ◌≡◌ {A = ℕ → Pair} found.node (split_round st r).node = λ i e. capacity-is (study_elements st) (round_at st r) good classes-small e i in
         let arcs : ◌≡◌ {A = ℕ → Pair} found.arc (split_round st r).arc = λ i e. pair_of (long-order1 i + 1) (long-order2 i + 1) in
-        ap₂ at nodes arcs
+        ap₂ with-these nodes arcs
 
     -- THE FRONT that the search finds with these orders is the round's
     pub search-front : front (length (round_order1 st r)) (length (round_order2 st r))
         (route_pairs (order_network (split_arcs (length st.classes) st.entries) (round_order1 st r) (round_order2 st r) st.source st.target))
         ≡ round_front st r
-    search-front = ap₂ (λ m n. front m n (route_pairs found)) long-order1 long-order2 ∙ ap (λ n. front (study_size1 st) (study_size2 st) (route_pairs n)) network-is ∙ sym (round-front st w r)
+    search-front = ap₂ (λ m n. front m n (route_pairs found)) long-order1 long-order2 ∙ ap (front (study_size1 st) (study_size2 st)) pairs-are ∙ sym (round-front st w r)
 
     -- ---- the split arcs lead between elements
     node_in : (v : ℕ) → v < length st.classes → v < length (study_elements st)

@@ -1,7 +1,7 @@
 -- STEPS: what proofs and the contracts between our crates speak of. Nobody has to believe these: no promise to a caller cites them.
 -- Networks whose failing arcs have become nodes: each stands in the middle of its arc, with the arc's capacity.
-use Rattle.std.specs.Prelude.{◌≡◌, ◌⊎◌, Bool, not, cond, List, [], ◌∷◌, map, ℕ, suc, ◌+◌, ◌≤◌, ◌<◌, T, eqb, ltb, length, get_or}
-use Rattle.laws.specs.Members.{◌∈◌, keep, concat_map}
+use Rattle.std.specs.Prelude.{◌≡◌, ◌⊎◌, Bool, not, cond, List, [], ◌∷◌, map, ℕ, suc, ◌+◌, ◌≤◌, ◌<◌, T, eqb, length, get_or}
+use Rattle.laws.specs.Members.{◌∈◌, concat_map}
 use Rattle.front.specs.declared.Pair.{Pair}
 use Rattle.front.specs.Pair.{pair_of}
 use Rattle.orders.specs.Order.{members, order1, order2, position}
@@ -49,10 +49,6 @@ pub record Splits (net big : Network) (size n1 n2 : ℕ) (fails : ℕ → Bool) 
   pub kept : (k : Arc) → k ∈ net.arcs → (T (fails k.place) → ⊥) → Leads big.arcs k.from k.to
   pub entered : (k : Arc) → k ∈ net.arcs → T (fails k.place) → Leads big.arcs k.from (mid k.place)
   pub left : (k : Arc) → k ∈ net.arcs → T (fails k.place) → Leads big.arcs (mid k.place) k.to
-
--- the nodes of a walk that are nodes of the study: those that stand for arcs are left out
-abbrev pub without_middles : ℕ → List ℕ → List ℕ
-without_middles size l = keep (λ v. ltb v size) l
 
 -- ---- THE SPLIT ARCS, the arc at place i having node size + i
 -- an arc, or its two halves, with the node m between them

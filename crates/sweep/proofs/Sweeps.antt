@@ -34,7 +34,7 @@ module _ (f : Graph) where
     out : (u v : ℕ) → T (whole f u v) → T (holds c.done u v) ⊎ (u < x)
     out u v t = ⊎_elim inl (λ k. inr ((held-below-is x u v).0 k).0) ((T-or (holds c.done u v) (held_below f x u v)).0 (subst T (c.holding u v) t))
 
-    pub into : (u v : ℕ) → T (holds c.done u v) → T (whole f u v)
+    into : (u v : ℕ) → T (holds c.done u v) → T (whole f u v)
     into u v t = subst T (sym (c.holding u v)) ((T-or (holds c.done u v) (held_below f x u v)).1 (inl t))
 
     module _ (a y last : ℕ) (is : x ≡ suc a) (now : Height a y) (old : Height x last) where

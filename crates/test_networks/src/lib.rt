@@ -1,6 +1,4 @@
 // Networks made from a seed: node bytes, arc bytes and rounds of a study.
-pub mod long;
-
 ghost use Rattle.std.specs.Prelude.{◌+◌, ◌≤◌, ◌<◌, length};
 
 use test_support::{byte, flag, pick, poke, times};

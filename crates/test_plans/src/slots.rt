@@ -1,20 +1,16 @@
-// Records in slots of 160 bytes, tables in slots of 4,225 behind them, which ways of arcs routes use,
-// the routes of one record; and counts.
+// Records in slots of 160 bytes, tables in slots of 4,225 behind them, which ways of arcs routes use;
+// and counts.
 ghost use Rattle.std.specs.Prelude.{◌≤◌};
 
 use answer::Written;
 use test_support::{byte, poke};
 
-// Eight records, eight tables, 64 ways, and as many bytes as routes ever need.
+// Eight records, eight tables, and 64 ways.
 pub const TABLES: usize = 1280;
 
 pub const WAYS: usize = 35080;
 
-pub const SHOWN: usize = 35144;
-
-pub const MOST_SHOWN: usize = 10465;
-
-pub const FOUND: usize = 45609;
+pub const FOUND: usize = 35144;
 
 // The length written; 0 on a refusal.
 pub fn length_of(w: Written) -> usize
@@ -33,7 +29,7 @@ pub fn length_of(w: Written) -> usize
 
 // The bytes from a place of one slice to a place of another.
 pub fn copy(from: &[u8], at: usize, n: usize, to: &mut [u8], place: usize)
-    requires { (at ≤ 1000000) × (place ≤ 1000000) × (n ≤ 20000) }
+    requires { (at ≤ 1000000) × (place ≤ 1000000) × (n ≤ 5000) }
 {
     let mut i: usize = 0;
     while i < n {
@@ -88,31 +84,7 @@ pub const BOTH_SORTS: usize = 20;
 // Six places, one for each kind.
 pub const KINDS: usize = 21;
 
-pub const EMPTY: usize = 27;
-
-pub const SEVERAL: usize = 28;
-
-// The most pairs of a front, and the most bytes of its routes.
-pub const LONGEST: usize = 29;
-
-pub const LONGEST_SHOWN: usize = 30;
-
-// Routes shown: how many; of them with arcs of differing kinds at a step, with a pair that the
-// choice of arcs decides, with failing arcs alone at a step, with arcs back alone at a step.
-pub const ROUTES_SHOWN: usize = 31;
-
-pub const DIFFERING: usize = 32;
-
-pub const DECIDED: usize = 33;
-
-pub const FAILING: usize = 34;
-
-pub const BACK: usize = 35;
-
-// Slices lent to search: two places for each case, for refusals and for successes.
-pub const LENT: usize = 36;
-
-pub const COUNTS: usize = 56;
+pub const COUNTS: usize = 27;
 
 pub fn tick(counts: &mut [u64], at: usize, n: u64) {
     if at < counts.len() {
@@ -120,19 +92,8 @@ pub fn tick(counts: &mut [u64], at: usize, n: u64) {
     }
 }
 
-// The largest of all numbers told.
-pub fn raise(counts: &mut [u64], at: usize, n: u64) {
-    if at < counts.len() {
-        counts[at] = if counts[at] < n { n } else { counts[at] };
-    }
-}
-
 // One comparison more, and what was wrong in it.
 pub fn judge(counts: &mut [u64], at: usize, wrong: u64) {
     tick(counts, at, 1);
     tick(counts, WRONG, wrong);
-}
-
-pub fn counted(counts: &[u64], at: usize) -> u64 {
-    if at < counts.len() { counts[at] } else { 0 }
 }

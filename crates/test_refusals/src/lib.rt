@@ -11,7 +11,6 @@
 //   112 round, 116 trailer
 //   148 the first record, 157 the second, 162 the tally, its score 165 and its cells from 166 on: no
 //   cell above 0, but for remove and score
-//   175 room for the routes
 ghost use Rattle.std.specs.Prelude.{◌+◌, ◌≤◌, ◌<◌};
 
 use answer::{Aged, Done, Opened, Rated, Scored, Written};
@@ -25,7 +24,7 @@ const CHANGED: u64 = 99;
 const PAST: u64 = 1000000;
 
 // The words of a case.
-const CASE: usize = 176;
+const CASE: usize = 175;
 
 // The calls, for dispatch and for what was seen.
 const WRITER: u64 = 0;
@@ -53,16 +52,6 @@ const RELIABILITY: u64 = 10;
 const REMOVE: u64 = 11;
 
 const SCORE: u64 = 12;
-
-// Search with the record short, with the routes short, with both.
-const RECORD_SHORT: u64 = 13;
-
-const ROUTES_SHORT: u64 = 14;
-
-const BOTH_SHORT: u64 = 15;
-
-// Fewer bytes than any record has, or the routes of one pair are measured by.
-const SHORT: usize = 2;
 
 // The words of the ring's tallies.
 const TALLY: usize = 13;
@@ -98,13 +87,13 @@ fn good(case: &mut [u32]) {
         b"6 0 0 0 7 0 0 0 1 0 0 0 0 0 0 0 1 0 0 0 96 0 0 0 25 0 0 0 4 0 0 0",
     );
     set(case, 148, b"2 2 3 3 1 2 2 1 3 2 2 1 2 3");
-    set(case, 162, b"2 2 1 0 0 0 0 0 0 0 0 0 0 21");
+    set(case, 162, b"2 2 1 0 0 0 0 0 0 0 0 0 0");
 }
 
 // The tally of two rounds, one of them the first record's: what remove takes back.
 fn good_for(call: u64, case: &mut [u32]) {
     good(case);
-    if (call < REMOVE) | (SCORE < call) {
+    if call < REMOVE {
         return;
     }
     set(case, 162, b"2 2 2 7 0 0 1 0 1 1 1 1 2");
@@ -227,6 +216,10 @@ fn fill_bytes(call: u64, case: &[u32], given: &[u8], out: &mut [u8]) -> u64 {
             out,
         ));
     }
+    if call == SEARCH {
+        let file = part(given, 0, size(case, 7));
+        return written(search::search(file, size(case, 8), out));
+    }
     let left = part(given, 128, size(case, 10));
     let right = part(given, 137, size(case, 11));
     if call == SERIES {
@@ -243,44 +236,21 @@ fn lend_bytes(call: u64, case: &[u32], given: &[u8], out: &mut [u8]) -> u64 {
     )
 }
 
+// Where the room for the call's bytes stands.
+fn room_at(call: u64) -> usize {
+    if call == WRITER {
+        return 6;
+    }
+    if call == SEARCH { 9 } else { 12 }
+}
+
 fn call_bytes(call: u64, case: &[u32]) -> u64 {
     let mut given = [0u8; 142];
     let mut out = [0u8; 64];
     bytes_of(case, 20, &mut given);
     bytes_of(case, 0, &mut out);
-    let n = room(case, if call == WRITER { 6 } else { 12 }, 64);
+    let n = room(case, room_at(call), 64);
     lend_bytes(call, case, &given, &mut out[0..n])
-}
-
-// ---- search, which fills two slices
-fn lend_both(case: &[u32], record: &mut [u8], routes: &mut [u8]) -> u64 {
-    let mut bytes = [0u8; 128];
-    bytes_of(case, 20, &mut bytes);
-    let file = part(&bytes, 0, size(case, 7));
-    let number = written(search::search(file, size(case, 8), record, routes));
-    let kept = bytes_kept(case, 0, record) & bytes_kept(case, 0, routes);
-    told(number, kept & bytes_kept(case, 20, &bytes))
-}
-
-// The room for one of them.
-fn room_for(case: &[u32], at: usize, short: bool) -> usize
-    ensures { result ≤ 64 }
-{
-    if short {
-        return SHORT;
-    }
-    room(case, at, 64)
-}
-
-fn call_search(call: u64, case: &[u32]) -> u64 {
-    let mut record = [0u8; 64];
-    let mut routes = [0u8; 64];
-    bytes_of(case, 0, &mut record);
-    bytes_of(case, 0, &mut routes);
-    let both = call == BOTH_SHORT;
-    let n = room_for(case, 9, both | (call == RECORD_SHORT));
-    let m = room_for(case, 175, both | (call == ROUTES_SHORT));
-    lend_both(case, &mut record[0..n], &mut routes[0..m])
 }
 
 // ---- calls that fill words
@@ -372,9 +342,6 @@ fn call_on(call: u64, case: &[u32]) -> u64 {
     if call == SCORE {
         return call_score(case);
     }
-    if (call == SEARCH) | (SCORE < call) {
-        return call_search(call, case);
-    }
     if call <= PARALLEL {
         return call_bytes(call, case);
     }
@@ -382,8 +349,7 @@ fn call_on(call: u64, case: &[u32]) -> u64 {
 }
 
 // ---- lists of changes: place, value, number
-// Opening refuses no round, lookup's check no order and no room; both refuse kinds. Search with a
-// short slice fills nothing.
+// Opening refuses no round, lookup's check no order and no room; both refuse kinds.
 fn due(call: u64, number: u64) -> u64 {
     if number == 32 {
         return 32;
@@ -394,15 +360,12 @@ fn due(call: u64, number: u64) -> u64 {
     if (call == CHECK) & (10 < number) {
         return 0;
     }
-    if (SCORE < call) & (number == 0) {
-        return 15;
-    }
     number
 }
 
 // Change k of a list to a case, at a call: 1 if the answer is not the number that is due.
 fn try_change(call: u64, base: &[u32], list: &[u8], k: u64, seen: &mut [u8]) -> u64
-    requires { (k ≤ 1000) × (call ≤ 15) }
+    requires { (k ≤ 1000) × (call ≤ 12) }
     ensures { result ≤ 1 }
 {
     let mut case = [0u32; CASE];
@@ -424,7 +387,7 @@ fn try_change(call: u64, base: &[u32], list: &[u8], k: u64, seen: &mut [u8]) -> 
 
 // How many changes of a list to a case are answered wrongly.
 fn try_from(call: u64, base: &[u32], list: &[u8], seen: &mut [u8]) -> u64
-    requires { call ≤ 15 }
+    requires { call ≤ 12 }
     ensures { result ≤ 400 }
 {
     let n = fields(list) / 3;
@@ -439,7 +402,7 @@ fn try_from(call: u64, base: &[u32], list: &[u8], seen: &mut [u8]) -> u64
 
 // The changes to the good case.
 fn try_list(call: u64, list: &[u8], seen: &mut [u8]) -> u64
-    requires { call ≤ 15 }
+    requires { call ≤ 12 }
     ensures { result ≤ 400 }
 {
     let mut case = [1u32; CASE];
@@ -449,7 +412,7 @@ fn try_list(call: u64, list: &[u8], seen: &mut [u8]) -> u64
 
 // The changes to the good case with the numbers of a text from a place on.
 fn try_with(call: u64, at: usize, text: &[u8], list: &[u8], seen: &mut [u8]) -> u64
-    requires { (call ≤ 15) × (at ≤ 1000) }
+    requires { (call ≤ 12) × (at ≤ 1000) }
     ensures { result ≤ 400 }
 {
     let mut case = [1u32; CASE];
@@ -477,7 +440,7 @@ fn try_writer(seen: &mut [u8]) -> u64
 // The study file's calls: length, N, A, M, s, t, sections, nodes, arcs, rounds; then what only
 // lookup or search refuses.
 fn try_file(call: u64, seen: &mut [u8]) -> u64
-    requires { call ≤ 15 }
+    requires { call ≤ 10 }
     ensures { result ≤ 1200 }
 {
     let a = try_list(
@@ -492,7 +455,7 @@ fn try_file(call: u64, seen: &mut [u8]) -> u64
     );
     let c = try_list(
         call,
-        b"91 6 8,92 0 8,93 6 32,93 3 0,93 4 9,93 5 9,124 2 9,8 1 10,112 2 11,113 1 11,115 1 11,115 2 11,9 8 15,175 20 15",
+        b"91 6 8,92 0 8,93 6 32,93 3 0,93 4 9,93 5 9,124 2 9,8 1 10,112 2 11,113 1 11,115 1 11,115 2 11,9 8 15",
         seen,
     );
     a + b + c
@@ -512,7 +475,7 @@ fn try_join(call: u64, seen: &mut [u8]) -> u64
 // The words before the cells, the score, and M below the last cell: at each call that tests a tally. In
 // four words a size above 64 is 22, in three it is 21.
 fn try_head(call: u64, seen: &mut [u8]) -> u64
-    requires { call ≤ 15 }
+    requires { call ≤ 12 }
     ensures { result ≤ 800 }
 {
     let a = try_with(call, 162, b"65 0 0 0", b"13 4 22,13 3 21,13 0 21", seen);
@@ -624,7 +587,7 @@ fn show_number(k: u64) {
 
 // A line: the call's name and the numbers that it refused with.
 fn show(name: &[u8], call: usize, seen: &[u8])
-    requires { call ≤ 15 }
+    requires { call ≤ 12 }
 {
     io::write_all(STDOUT_FILENO, name);
     let mut k: usize = 1;
@@ -642,9 +605,6 @@ fn show_all(seen: &[u8]) {
     show(b"opening refused", 1, seen);
     show(b"lookup refused", 2, seen);
     show(b"search refused", 3, seen);
-    show(b"search, record short, refused", 13, seen);
-    show(b"search, routes short, refused", 14, seen);
-    show(b"search, both short, refused", 15, seen);
     show(b"series refused", 4, seen);
     show(b"parallel refused", 5, seen);
     show(b"new refused", 6, seen);
@@ -658,14 +618,11 @@ fn show_all(seen: &[u8]) {
 
 // The calls on studies and records.
 fn try_fronts(seen: &mut [u8]) -> u64
-    ensures { result ≤ 10000 }
+    ensures { result ≤ 6000 }
 {
     let w = try_writer(seen);
     let o = try_file(OPENING, seen) + try_file(CHECK, seen) + try_file(SEARCH, seen);
-    let n = try_file(RECORD_SHORT, seen)
-        + try_file(ROUTES_SHORT, seen)
-        + try_file(BOTH_SHORT, seen);
-    w + o + n + try_join(SERIES, seen) + try_join(PARALLEL, seen)
+    w + o + try_join(SERIES, seen) + try_join(PARALLEL, seen)
 }
 
 // The calls on tallies and chances.
@@ -680,7 +637,7 @@ fn try_tallies(seen: &mut [u8]) -> u64
 pub fn try_refusals() -> u64
     ensures { result ≤ 20000 }
 {
-    let mut seen = [0u8; 640];
+    let mut seen = [0u8; 520];
     let wrong = try_fronts(&mut seen) + try_tallies(&mut seen);
     show_all(&seen);
     wrong

@@ -15,7 +15,7 @@ pub struct Network {
     pub target: usize,
 }
 
-pub fn least(x: usize, y: usize) -> usize
+fn least(x: usize, y: usize) -> usize
     ensures { (result ≤ x) × (result ≤ y) }
 {
     if x < y { x } else { y }
@@ -217,14 +217,14 @@ struct Route {
     left: u64,
 }
 
-pub fn smaller(x: u64, y: u64) -> u64
+fn smaller(x: u64, y: u64) -> u64
     ensures { (result ≤ x) × (result ≤ y) }
 {
     if x < y { x } else { y }
 }
 
 // The position of a member in an order; one past the last where it has none.
-pub fn position(x: u64, order: &[u32]) -> u64
+fn position(x: u64, order: &[u32]) -> u64
     ensures { result ≤ 300 }
 {
     let n = order.len() % 256;

@@ -1,4 +1,4 @@
-// Fronts and routes of converted studies against removal testing on the old ones, read plainly.
+// Fronts of converted studies against removal testing on the old ones, read plainly.
 ghost use Rattle.std.specs.Prelude.{◌≤◌, length};
 
 use crate::made::{by_numbers, without_kinds};
@@ -6,7 +6,7 @@ use crate::{FRONTS, PAIRS};
 use test_counts::{WRONG, count};
 use test_files::{Numbers, nodes_of, of_class, trailer};
 use test_networks::{KIND_0, Shape};
-use test_plans::slots::{MOST_SHOWN, length_of, tick};
+use test_plans::slots::{length_of, tick};
 use test_removal::Network;
 use test_support::{byte, part, put, times};
 
@@ -72,14 +72,13 @@ fn order_of(bytes: &[u8], out: &mut [u32]) {
     }
 }
 
-// A record and routes against the round of these bytes; how much is wrong.
-fn compare(file: &[u8], bytes: &[u8], n1: usize, n2: usize, front: &[u8], routes: &[u8]) -> u64
+// Where the round of these bytes holds.
+fn table(file: &[u8], bytes: &[u8], n1: usize, n2: usize, cells: &mut [u8])
     requires { (length file.now ≤ 10000) × (n1 ≤ 64) × (n2 ≤ 64) }
 {
     let mut arcs = [0u8; 15000];
     let mut order1 = [0u32; 64];
     let mut order2 = [0u32; 64];
-    let mut cells = [0u8; 4225];
     let a = test_old_files::with_kinds(test_old_files::arcs_of(file), &mut arcs);
     order_of(part(bytes, 0, n1), &mut order1);
     order_of(part(bytes, n1, n2), &mut order2);
@@ -88,11 +87,7 @@ fn compare(file: &[u8], bytes: &[u8], n1: usize, n2: usize, front: &[u8], routes
         source: trailer(file, 3),
         target: trailer(file, 4),
     };
-    let first = &order1[0..n1];
-    let second = &order2[0..n2];
-    test_removal::table(net, &arcs[0..a], first, second, &mut cells);
-    let shown = test_routes::check(net, &arcs[0..a], first, second, front, routes);
-    test_removal::differ(front, &cells) % 1000000 + shown.wrong % 1000000
+    test_removal::table(net, &arcs[0..a], &order1[0..n1], &order2[0..n2], cells);
 }
 
 // Round r of both files.
@@ -100,14 +95,15 @@ fn try_round(old: &[u8], new: &[u8], r: usize, counts: &mut [u64])
     requires { (length old.now ≤ 10000) × (r ≤ 4) }
 {
     let mut front = [0u8; 160];
-    let mut routes = [0u8; MOST_SHOWN];
-    let n = length_of(search::search(new, r, &mut front, &mut routes));
+    let mut cells = [0u8; 4225];
+    let n = length_of(search::search(new, r, &mut front));
     let nodes = nodes_of(old);
     let n1 = size(nodes, 1);
     let n2 = size(nodes, 2);
     let at = times(r as u64, (n1 + n2) as u64) % 4096;
     let bytes = part(test_old_files::rounds_of(old), at as usize, n1 + n2);
-    let wrong = compare(old, bytes, n1, n2, &front, &routes);
+    table(old, bytes, n1, n2, &mut cells);
+    let wrong = test_removal::differ(&front, &cells);
     count(counts, WRONG, (n == 0) | (0 < wrong));
     tick(counts, FRONTS, 1);
     tick(counts, PAIRS, byte(&front, 2));

@@ -1,6 +1,6 @@
 // Runs the converter on generated old study files, good and damaged, and compares every answer and
-// every byte with a plain reading that shares no code with the library; the fronts and routes of
-// converted studies against removal testing on the old ones. Nothing in a file tells its form: opening reads
+// every byte with a plain reading that shares no code with the library; the fronts of converted
+// studies against removal testing on the old ones. Nothing in a file tells its form: opening reads
 // the old files as new ones, and the converter new files as old ones.
 mod edges;
 mod fronts;
@@ -140,7 +140,7 @@ fn show(counts: &[u64]) {
     line(b"converter, longer slices ", counted(counts, ROOMY));
     row(b"opening, old files\n", counts, OPENING);
     line(b"fronts compared ", counted(counts, FRONTS));
-    line(b"pairs listed, and routes ", counted(counts, PAIRS));
+    line(b"pairs listed ", counted(counts, PAIRS));
     io::write_all(STDOUT_FILENO, b"limits of the converter, 0 for a success\n");
 }
 

@@ -1,13 +1,12 @@
-// What generated studies, fronts and routes have, counted.
+// What generated studies have, counted.
 ghost use Rattle.std.specs.Prelude.{◌≤◌, ◌<◌, length};
 
 use crate::Case;
 use test_networks::{of_kind, parallel};
 use test_plans::slots;
-use test_plans::slots::{counted, raise, tick};
+use test_plans::slots::tick;
 use test_removal::of_class;
-use test_routes::Shown;
-use test_support::{byte, flag, line};
+use test_support::{byte, flag};
 
 // ---- ends
 // Which fail: neither, one, two of one class, one of each.
@@ -98,53 +97,4 @@ pub fn note(nodes: &[u8], arcs: &[u8], c: Case, counts: &mut [u64])
     note_ends(source, target, c, counts);
     note_kinds(arcs, counts);
     note_members(nodes, arcs, c, counts);
-}
-
-// ---- fronts and routes
-// What a front has, and how long its routes are.
-pub fn note_front(front: &[u8], routes: &[u8], c: Case, counts: &mut [u64]) {
-    let pairs = byte(front, 2);
-    tick(counts, slots::PAIRS, pairs);
-    tick(counts, slots::EMPTY, flag(pairs == 0));
-    tick(counts, slots::SEVERAL, flag(1 < pairs));
-    raise(counts, slots::LONGEST, pairs);
-    raise(counts, slots::LONGEST_SHOWN, routes.len() as u64);
-    tick(counts, slots::ROUTES, flag(c.small));
-}
-
-// What routes have.
-pub fn note_shown(shown: Shown, counts: &mut [u64]) {
-    tick(counts, slots::WRONG, shown.wrong);
-    tick(counts, slots::ROUTES_SHOWN, shown.routes);
-    tick(counts, slots::DIFFERING, shown.differ);
-    tick(counts, slots::DECIDED, shown.decide);
-    tick(counts, slots::FAILING, shown.fail);
-    tick(counts, slots::BACK, shown.back);
-}
-
-pub fn show_shown(counts: &[u64]) {
-    line(b"empty fronts ", counted(counts, slots::EMPTY));
-    line(b"fronts of several pairs ", counted(counts, slots::SEVERAL));
-    line(b"most pairs of a front ", counted(counts, slots::LONGEST));
-    line(
-        b"most bytes of its routes ",
-        counted(counts, slots::LONGEST_SHOWN),
-    );
-    line(b"routes shown ", counted(counts, slots::ROUTES_SHOWN));
-    line(
-        b"  arcs of differing kinds at a step ",
-        counted(counts, slots::DIFFERING),
-    );
-    line(
-        b"  another choice of arcs has another pair ",
-        counted(counts, slots::DECIDED),
-    );
-    line(
-        b"  a step by failing arcs alone ",
-        counted(counts, slots::FAILING),
-    );
-    line(
-        b"  a step against arcs alone ",
-        counted(counts, slots::BACK),
-    );
 }

@@ -1,15 +1,14 @@
 // The whole library on generated networks, whose nodes and arcs fail, against removal testing:
 // opening, searches and plans, every front at every (a, b) and the small ones against all routes,
-// every route shown, and the slices lent; tallies, and reliability by exact arithmetic. Then every
-// refusal of every call.
+// tallies, and reliability by exact arithmetic. Then every refusal of every call.
 mod features;
 
 ghost use Rattle.std.specs.Prelude.{◌≤◌, ◌<◌, length};
 
 use answer::Opened;
-use test_networks::long;
+use test_networks::Shape;
 use test_plans::slots;
-use test_plans::slots::{copy, counted, judge, length_of, tick};
+use test_plans::slots::{copy, judge, length_of, tick};
 use test_removal::Network;
 use test_support::{byte, equal, flag, line, part, times};
 
@@ -61,21 +60,6 @@ fn compare(
     wrong + routes_wrong(c.net, arcs, order1, order2, front, ways)
 }
 
-// The members that fail, in the orders of a round's bytes.
-fn orders_of(
-    c: Case,
-    nodes: &[u8],
-    arcs: &[u8],
-    bytes: &[u8],
-    order1: &mut [u32],
-    order2: &mut [u32],
-)
-    requires { (c.n1 ≤ 64) × (c.n2 ≤ 64) }
-{
-    test_removal::failing(nodes, arcs, 1, part(bytes, 0, c.n1), order1);
-    test_removal::failing(nodes, arcs, 2, part(bytes, c.n1, c.n2), order2);
-}
-
 // The same for the bytes of a round.
 fn try_round(
     c: Case,
@@ -93,18 +77,18 @@ fn try_round(
     let mut order2 = [0u32; 64];
     let n1 = c.n1;
     let n2 = c.n2;
-    orders_of(c, nodes, arcs, bytes, &mut order1, &mut order2);
+    test_removal::failing(nodes, arcs, 1, part(bytes, 0, n1), &mut order1);
+    test_removal::failing(nodes, arcs, 2, part(bytes, n1, n2), &mut order2);
     compare(c, arcs, &order1[0..n1], &order2[0..n2], front, cells, ways)
 }
 
-// Leaves a record and a table in slot r, the ways that routes use, and the routes shown.
-fn store(front: &[u8], cells: &[u8], ways: &[u8], shown: &[u8], r: usize, found: &mut [u8])
+// Leaves a record and a table in slot r, and the ways that routes use.
+fn store(front: &[u8], cells: &[u8], ways: &[u8], r: usize, found: &mut [u8])
     requires { r ≤ 8 }
 {
     copy(front, 0, 160, found, 160 * r);
     copy(cells, 0, 4225, found, slots::TABLES + 4225 * r);
     copy(ways, 0, 64, found, slots::WAYS);
-    copy(shown, 0, slots::MOST_SHOWN, found, slots::SHOWN);
 }
 
 fn bytes_of(c: Case, rounds: &[u8], r: usize) -> &[u8]
@@ -130,8 +114,7 @@ fn round(
     let mut front = [0u8; 160];
     let mut cells = [0u8; 4225];
     let mut ways = [0u8; 64];
-    let mut shown = [0u8; slots::MOST_SHOWN];
-    let n = length_of(search::search(file, r, &mut front, &mut shown));
+    let n = length_of(search::search(file, r, &mut front));
     let wrong = try_round(
         c,
         nodes,
@@ -141,59 +124,8 @@ fn round(
         &mut cells,
         &mut ways,
     );
-    store(&front, &cells, &ways, &shown, r, found);
+    store(&front, &cells, &ways, r, found);
     wrong + flag(n == 0)
-}
-
-// ---- what rounds have found
-// The record of round r.
-fn front_in(found: &[u8], r: usize) -> &[u8]
-    requires { r ≤ 8 }
-{
-    part(found, 160 * r, 3 + 2 * byte(found, 160 * r + 2) as usize)
-}
-
-fn shown_in(found: &[u8]) -> &[u8] {
-    part(found, slots::SHOWN, slots::MOST_SHOWN)
-}
-
-// The routes shown for round r, of these bytes.
-fn try_shown(
-    c: Case,
-    nodes: &[u8],
-    arcs: &[u8],
-    bytes: &[u8],
-    r: usize,
-    found: &[u8],
-    counts: &mut [u64],
-)
-    requires { (c.net.nodes ≤ 10000) × (c.n1 ≤ 64) × (c.n2 ≤ 64) × (r ≤ 8) }
-{
-    let mut order1 = [0u32; 64];
-    let mut order2 = [0u32; 64];
-    let n1 = c.n1;
-    let n2 = c.n2;
-    orders_of(c, nodes, arcs, bytes, &mut order1, &mut order2);
-    let shown = test_routes::check(
-        c.net,
-        arcs,
-        &order1[0..n1],
-        &order2[0..n2],
-        front_in(found, r),
-        shown_in(found),
-    );
-    features::note_shown(shown, counts);
-}
-
-// The slices lent for round r.
-fn try_lent(c: Case, file: &[u8], r: usize, found: &[u8], counts: &mut [u64])
-    requires { (c.net.nodes ≤ 10000) × (r ≤ 8) }
-{
-    let front = front_in(found, r);
-    let shown = shown_in(found);
-    let routes = part(shown, 0, test_routes::taken(front, shown));
-    test_lent::try_slices(c.net.nodes, file, r, front, routes, counts);
-    features::note_front(front, routes, c, counts);
 }
 
 // Eight rounds.
@@ -212,8 +144,8 @@ fn try_rounds(
     while r < 8 {
         let wrong = round(c, file, nodes, arcs, rounds, r, found);
         judge(counts, slots::SEARCHED, wrong);
-        try_shown(c, nodes, arcs, bytes_of(c, rounds, r), r, found, counts);
-        try_lent(c, file, r, found, counts);
+        tick(counts, slots::PAIRS, byte(found, 160 * r + 2));
+        tick(counts, slots::ROUTES, flag(c.small));
         r += 1;
     }
 }
@@ -277,15 +209,15 @@ fn size(n: usize) -> usize
     if n > 64 { 0 } else { n }
 }
 
-fn case_of(source: u64, target: u64, nodes: &[u8], arcs: &[u8], small: bool) -> Case
+fn case_of(s: Shape, nodes: &[u8], arcs: &[u8], small: bool) -> Case
     requires { length nodes.now ≤ 160 }
     ensures { (result.net.nodes ≤ 10000) × (result.n1 ≤ 64) × (result.n2 ≤ 64) }
 {
     Case {
         net: Network {
             nodes: nodes.len(),
-            source: source as usize,
-            target: target as usize,
+            source: s.source as usize,
+            target: s.target as usize,
         },
         n1: size(test_removal::of_class(nodes, arcs, 1)),
         n2: size(test_removal::of_class(nodes, arcs, 2)),
@@ -340,7 +272,7 @@ fn try_network(seed: u64, kind: u64, pipes: u64, counts: &mut [u64]) {
     test_networks::classes(seed, s, &mut nodes);
     test_networks::arcs_of(seed, s, &mut arcs);
     test_networks::kinds(seed, s, &nodes[0..n], &mut arcs);
-    let c = case_of(s.source, s.target, &nodes[0..n], &arcs[0..a], kind == 7);
+    let c = case_of(s, &nodes[0..n], &arcs[0..a], kind == 7);
     try_sections(seed, c, &nodes[0..n], &arcs[0..a], counts);
 }
 
@@ -364,113 +296,68 @@ fn try_networks(counts: &mut [u64]) {
     }
 }
 
-// ---- long fronts
-// The study of these nodes and arcs; its first round has the orders opposed.
-fn try_opposed(seed: u64, c: Case, nodes: &[u8], arcs: &[u8], counts: &mut [u64])
-    requires { (c.net.nodes ≤ 10000) × (c.n1 ≤ 64) × (c.n2 ≤ 64) × (length arcs.now ≤ 3072) }
-{
-    let mut rounds = [0u8; 1024];
-    let m = rounds_of(seed, c.n1, c.n2, &mut rounds);
-    long::opposed(c.n1, c.n2, &mut rounds);
-    try_study(seed, c, nodes, arcs, &rounds[0..m], counts);
-}
-
-fn try_chain(seed: u64, n: usize, choices: u64, counts: &mut [u64])
-    requires { (2 ≤ n) × (n ≤ 160) }
-{
-    let nodes = [0u8; 160];
-    let mut arcs = [0u8; 3072];
-    let a = long::chain(seed, n as u64, choices, &mut arcs);
-    let c = case_of(0, n as u64 - 1, &nodes[0..n], &arcs[0..a], false);
-    try_opposed(seed, c, &nodes[0..n], &arcs[0..a], counts);
-}
-
-fn try_branches(seed: u64, n: usize, counts: &mut [u64])
-    requires { n ≤ 64 }
-{
-    let mut nodes = [0u8; 160];
-    let mut arcs = [0u8; 3072];
-    long::branches(seed, n, &mut nodes, &mut arcs);
-    let m = 2 + 2 * n;
-    let c = case_of(0, 1, &nodes[0..m], &arcs[0..9 * n], false);
-    try_opposed(seed, c, &nodes[0..m], &arcs[0..9 * n], counts);
-}
-
-// The longest of each sort first.
-fn try_long(counts: &mut [u64]) {
-    let mut i: usize = 0;
-    while i < 8 {
-        let seed = test_support::seed(600 + i as u64);
-        try_chain(seed, 160 - 19 * i, 64 - 7 * i as u64, counts);
-        try_branches(seed, 64 - 9 * i, counts);
-        i += 1;
-    }
+fn count(counts: &[u64], at: usize) -> u64 {
+    if at < counts.len() { counts[at] } else { 0 }
 }
 
 fn show_arcs(counts: &[u64]) {
-    line(b"  all arcs of kind 0 ", counted(counts, slots::KIND_0));
-    line(b"  arcs alone fail ", counted(counts, slots::ARCS_ALONE));
+    line(b"  all arcs of kind 0 ", count(counts, slots::KIND_0));
+    line(b"  arcs alone fail ", count(counts, slots::ARCS_ALONE));
     line(
         b"  an end and an arc of one class ",
-        counted(counts, slots::END_AND_ARC),
+        count(counts, slots::END_AND_ARC),
     );
     line(
         b"  parallel arcs of differing kinds ",
-        counted(counts, slots::PARALLEL),
+        count(counts, slots::PARALLEL),
     );
     line(
         b"  an arc that routes use each way ",
-        counted(counts, slots::EACH_WAY),
+        count(counts, slots::EACH_WAY),
     );
     line(
         b"  a class of 64, nodes and arcs ",
-        counted(counts, slots::BOTH_SORTS),
+        count(counts, slots::BOTH_SORTS),
     );
-    line(b"arcs of kind 0 ", counted(counts, slots::KINDS));
-    line(b"arcs of kind 1 ", counted(counts, slots::KINDS + 1));
-    line(b"arcs of kind 2 ", counted(counts, slots::KINDS + 2));
-    line(b"arcs of kind 3 ", counted(counts, slots::KINDS + 3));
-    line(b"arcs of kind 4 ", counted(counts, slots::KINDS + 4));
-    line(b"arcs of kind 5 ", counted(counts, slots::KINDS + 5));
+    line(b"arcs of kind 0 ", count(counts, slots::KINDS));
+    line(b"arcs of kind 1 ", count(counts, slots::KINDS + 1));
+    line(b"arcs of kind 2 ", count(counts, slots::KINDS + 2));
+    line(b"arcs of kind 3 ", count(counts, slots::KINDS + 3));
+    line(b"arcs of kind 4 ", count(counts, slots::KINDS + 4));
+    line(b"arcs of kind 5 ", count(counts, slots::KINDS + 5));
 }
 
 fn show(counts: &[u64]) {
-    line(b"studies opened ", counted(counts, slots::OPENED));
-    line(b"  ends of class 0 ", counted(counts, slots::NEITHER));
-    line(b"  one end fails ", counted(counts, slots::ONE_END));
+    line(b"studies opened ", count(counts, slots::OPENED));
+    line(b"  ends of class 0 ", count(counts, slots::NEITHER));
+    line(b"  one end fails ", count(counts, slots::ONE_END));
     line(
         b"  both ends of one class ",
-        counted(counts, slots::ONE_CLASS),
+        count(counts, slots::ONE_CLASS),
     );
     line(
         b"  ends of classes 1 and 2 ",
-        counted(counts, slots::BOTH_CLASSES),
+        count(counts, slots::BOTH_CLASSES),
     );
-    line(
-        b"  an end alone in its class ",
-        counted(counts, slots::ALONE),
-    );
+    line(b"  an end alone in its class ", count(counts, slots::ALONE));
     show_arcs(counts);
-    line(b"rounds searched ", counted(counts, slots::SEARCHED));
-    line(b"pairs listed ", counted(counts, slots::PAIRS));
+    line(b"rounds searched ", count(counts, slots::SEARCHED));
+    line(b"pairs listed ", count(counts, slots::PAIRS));
     line(
         b"rounds compared with all routes ",
-        counted(counts, slots::ROUTES),
+        count(counts, slots::ROUTES),
     );
-    features::show_shown(counts);
-    test_lent::show(counts);
-    line(b"plans ", counted(counts, slots::PLANS));
-    line(b"tallies ", counted(counts, slots::TALLIES));
-    line(b"cells compared ", counted(counts, slots::CELLS));
-    line(b"rates compared exactly ", counted(counts, slots::RATES));
-    line(b"ages ", counted(counts, slots::AGES));
-    line(b"wrong ", counted(counts, slots::WRONG));
+    line(b"plans ", count(counts, slots::PLANS));
+    line(b"tallies ", count(counts, slots::TALLIES));
+    line(b"cells compared ", count(counts, slots::CELLS));
+    line(b"rates compared exactly ", count(counts, slots::RATES));
+    line(b"ages ", count(counts, slots::AGES));
+    line(b"wrong ", count(counts, slots::WRONG));
 }
 
 fn main() {
     let mut counts = [0u64; slots::COUNTS];
     try_networks(&mut counts);
-    try_long(&mut counts);
     tick(&mut counts, slots::AGES, test_survival::AGES);
     tick(
         &mut counts,

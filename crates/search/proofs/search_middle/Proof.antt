@@ -1,33 +1,30 @@
--- `search::search_middle`: positions and chains are what the sweep asks for, and its front and routes are those of the orders.
+-- `search::search_middle`: positions and chains are what the sweep asks for, and its front is that of the orders.
 use mathlib.Core.Path.{refl}
 use native.Mathlib.Omega.{arith}
 use borrow.Author.Rules.{rules}
 use Rattle.laws.specs.Parts.{get_or-same}
 use Prim.Native.Nat.{◌*◌}
 use Rattle.search.specs.Steps.{middle_size}
-use Rattle.search.proofs.Rounds.{placeable, may-sweep, showable, the-blank, is_found}
+use Rattle.search.proofs.Rounds.{placeable, may-sweep, the-blank, is_front}
 use Rattle.search.proofs.search_middle.Statement.{statement}
 use Rattle.search.proofs.search_middle.Tie as tie
+
+cast-n2 : tie.Need-overflow-cast-n2
+cast-n2 c = search rules
 
 slice-aggregate-begin-at : tie.Need-slice-aggregate-begin-at
 slice-aggregate-begin-at c = search rules
 
 begin-at-requires : tie.Need-begin-at-requires
-begin-at-requires c κs = placeable c.before.before.before.before.before.requires.0 middle_size c.before.before.before.before.before.requires.1.1.0 (omega arith) (2 * middle_size) refl
+begin-at-requires c κs = placeable c.before.before.before.before.requires.0 middle_size c.before.before.before.before.requires.1.0 (omega arith) (2 * middle_size) refl
 
 slice-aggregate-link : tie.Need-slice-aggregate-link
 slice-aggregate-link c = search rules
 
 link-requires : tie.Need-link-requires
 link-requires c κs =
-    let q = c.before.before.before.before.before.before.before.before.requires.0 in
-    ((q.few, c.before.before.before.before.before.before.before.before.requires.1.1.0), ((omega (arith, q.many, c.before.before.before.before.before.before.before.before.requires.1.1.1), omega arith), (q.ends, λ v b. get_or-same 2304 v 0)))
-
-cast-t20 : tie.Need-overflow-cast-t20
-cast-t20 c = search rules
-
-cast-t21 : tie.Need-overflow-cast-t21
-cast-t21 c = search rules
+    let q = c.before.before.before.before.before.before.before.requires.0 in
+    ((q.few, c.before.before.before.before.before.before.before.requires.1.0), ((omega (arith, q.many, c.before.before.before.before.before.before.before.requires.1.1), omega arith), (q.ends, λ v b. get_or-same 2304 v 0)))
 
 slice-aggregate-sweep : tie.Need-slice-aggregate-sweep
 slice-aggregate-sweep c = search rules
@@ -43,30 +40,27 @@ slice-aggregate-sweep-4 c = search rules
 
 sweep-requires : tie.Need-sweep-requires
 sweep-requires c κs = (
-  may-sweep c.before.before.before.before.before.before.before.before.before.before.before.before.before.before.before.requires.0 middle_size c.before.before.before.before.before.before.before.before.before.before.before.before.before.before.before.requires.1.1.0 (omega arith) (2 * middle_size) refl c.before.before.before.before.before.before.before.before.before.begin-at.ensures c.before.before.before.before.before.before.link.ensures,
-  (showable c.before.before.before.before.before.before.before.before.before.before.before.before.before.before.before.requires.0 middle_size c.before.before.before.before.before.before.before.before.before.before.before.before.before.before.before.requires.1.1.0 (omega arith) (2 * middle_size) refl c.before.before.before.before.before.before.before.before.before.begin-at.ensures _ _ refl c.before.before.before.before.before.before.before.before.before.before.before.before.before.before.before.requires.1.0, the-blank c.before.before.before.before.before.before.before.before.before.before.before.before.before.before.before.requires.0 middle_size c.before.before.before.before.before.before.before.before.before.before.before.before.before.before.before.requires.1.1.0 (omega arith) (2 * middle_size) refl c.before.before.before.before.before.before.before.before.before.begin-at.ensures),
+  may-sweep c.before.before.before.before.before.before.before.before.before.before.before.before.before.requires.0 middle_size c.before.before.before.before.before.before.before.before.before.before.before.before.before.requires.1.0 (omega arith) (2 * middle_size) refl c.before.before.before.before.before.before.before.before.begin-at.ensures c.before.before.before.before.before.link.ensures,
+  the-blank c.before.before.before.before.before.before.before.before.before.before.before.before.before.requires.0 middle_size c.before.before.before.before.before.before.before.before.before.before.before.before.before.requires.1.0 (omega arith) (2 * middle_size) refl c.before.before.before.before.before.before.before.before.begin-at.ensures,
 )
 
-same_length : tie.Need-same-length
-same_length c = search rules
-
 returns : tie.Need-returns
-returns c = is_found c.before.before.before.before.before.before.before.before.before.before.before.before.before.before.before.before.before.before.before.before.requires.0 middle_size c.before.before.before.before.before.before.before.before.before.before.before.before.before.before.before.before.before.before.before.before.requires.1.1.0 (omega arith) (2 * middle_size) refl c.before.before.before.before.before.before.before.before.before.before.before.before.before.before.begin-at.ensures c.before.before.before.before.sweep.result c.before.before.before.before.before.before.before.before.before.before.before.link.ensures c.before.before.before.before.sweep.ensures.0 c.before.before.before.before.sweep.ensures.1.0 c.before.before.before.before.sweep.ensures.1.1
+returns c =
+    is_front c.before.before.before.before.before.before.before.before.before.before.before.before.before.before.before.before.requires.0 middle_size c.before.before.before.before.before.before.before.before.before.before.before.before.before.before.before.before.requires.1.0 (omega arith) (2 * middle_size) refl c.before.before.before.before.before.before.before.before.before.before.before.begin-at.ensures c.before.before.sweep.result
+    c.before.before.before.before.before.before.before.before.link.ensures c.before.before.sweep.ensures
 
 pub search-middle-spec : {M : Type 1} → statement M
 search-middle-spec =
     tie.close
     (tie.spec
+    cast-n2
     slice-aggregate-begin-at
     begin-at-requires
     slice-aggregate-link
     link-requires
-    cast-t20
-    cast-t21
     slice-aggregate-sweep
     slice-aggregate-sweep-2
     slice-aggregate-sweep-3
     slice-aggregate-sweep-4
     sweep-requires
-    same_length
     returns)

@@ -21,14 +21,23 @@ round-requires c κs = search rules
 judge-requires : tie.Need-judge-requires invariant-loop decreases-loop
 judge-requires c κs = search rules
 
-bytes-of-requires : tie.Need-bytes-of-requires invariant-loop decreases-loop
-bytes-of-requires c κs = search rules
+mul-byte : tie.Need-overflow-mul-byte invariant-loop decreases-loop
+mul-byte c = search rules
 
-try-shown-requires : tie.Need-try-shown-requires invariant-loop decreases-loop
-try-shown-requires c κs = search rules
+add-byte : tie.Need-overflow-add-byte invariant-loop decreases-loop
+add-byte c = search rules
 
-try-lent-requires : tie.Need-try-lent-requires invariant-loop decreases-loop
-try-lent-requires c κs = search rules
+byte-requires : tie.Need-byte-requires invariant-loop decreases-loop
+byte-requires c κs = search rules
+
+tick-requires : tie.Need-tick-requires invariant-loop decreases-loop
+tick-requires c κs = search rules
+
+flag-requires : tie.Need-flag-requires invariant-loop decreases-loop
+flag-requires c κs = search rules
+
+tick-requires-2 : tie.Need-tick-requires-2 invariant-loop decreases-loop
+tick-requires-2 c κs = search rules
 
 add_r : tie.Need-overflow-add-r invariant-loop decreases-loop
 add_r c = search rules
@@ -57,9 +66,12 @@ try-rounds-spec =
     loop-holds
     round-requires
     judge-requires
-    bytes-of-requires
-    try-shown-requires
-    try-lent-requires
+    mul-byte
+    add-byte
+    byte-requires
+    tick-requires
+    flag-requires
+    tick-requires-2
     add_r
     loop-less
     loop-again
