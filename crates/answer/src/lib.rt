@@ -1,9 +1,10 @@
 // What the calls answer: a refusal with its number, or the values of a success.
+#![tactic(auto)]
 ghost use Rattle.std.specs.Prelude.{◌≡◌, [], length};
 ghost use Rattle.answer.specs.Outcome.{number_of, written, fill_answer, fill_out};
 
 // Why a call refuses: a case for each number of document 01's two lists, and for those of document 02.
-#[derive(Drop)]
+#[derive(Clone, Copy)]
 pub enum Refusal {
     // 1 the file's length
     FileLength,
@@ -50,21 +51,21 @@ pub enum Refusal {
 }
 
 // The answer of search, series, parallel and the writer: the length written.
-#[derive(Drop)]
+#[derive(Clone, Copy)]
 pub enum Written {
     Bytes(usize),
     Refused(Refusal),
 }
 
 // The answer of new, add, remove, weights and the check of a round: 0.
-#[derive(Drop)]
+#[derive(Clone, Copy)]
 pub enum Done {
     Done,
     Refused(Refusal),
 }
 
 // What opening finds in a study file: document 01's N, A, M, s, t, n1, n2.
-#[derive(Drop)]
+#[derive(Clone, Copy)]
 pub struct Header {
     pub nodes: usize,
     pub arcs: usize,
@@ -76,28 +77,28 @@ pub struct Header {
 }
 
 // The answer of opening.
-#[derive(Drop)]
+#[derive(Clone, Copy)]
 pub enum Opened {
     Study(Header),
     Refused(Refusal),
 }
 
 // The answer of ageing: the chance.
-#[derive(Drop)]
+#[derive(Clone, Copy)]
 pub enum Aged {
     Chance(u32),
     Refused(Refusal),
 }
 
 // The answer of score: the sum of a tally's cells.
-#[derive(Drop)]
+#[derive(Clone, Copy)]
 pub enum Scored {
     Score(u32),
     Refused(Refusal),
 }
 
 // What reliability finds: document 01's S, M, R.
-#[derive(Drop)]
+#[derive(Clone, Copy)]
 pub struct Rate {
     pub sum: u64,
     pub rounds: u64,
@@ -105,7 +106,7 @@ pub struct Rate {
 }
 
 // The answer of reliability.
-#[derive(Drop)]
+#[derive(Clone, Copy)]
 pub enum Rated {
     Found(Rate),
     Refused(Refusal),
@@ -149,5 +150,6 @@ pub fn deliver(bytes: &[u8], out: &mut [u8]) -> Written
     if out.len() < bytes.len() {
         return Written::Refused(Refusal::OutputShort);
     }
-    Written::Bytes(bytes::copy(bytes, out))
+    out[0..bytes.len()].copy_from_slice(bytes);
+    Written::Bytes(bytes.len())
 }

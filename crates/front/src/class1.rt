@@ -2,7 +2,7 @@
 ghost use Rattle.std.specs.Prelude.{◌≡◌, min, leb, ltb, eqb};
 
 // A position of class 1, counted from 1; n1 + 1 stands for no node of the class.
-#[derive(Drop)]
+#[derive(Clone, Copy)]
 pub struct Pos1(pub u8);
 
 impl Pos1 {

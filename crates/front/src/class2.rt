@@ -2,7 +2,7 @@
 ghost use Rattle.std.specs.Prelude.{◌≡◌, min, leb, ltb, eqb};
 
 // A position of class 2, counted from 1; n2 + 1 stands for no node of the class.
-#[derive(Drop)]
+#[derive(Clone, Copy)]
 pub struct Pos2(pub u8);
 
 impl Pos2 {

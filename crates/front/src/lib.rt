@@ -2,6 +2,7 @@
 //
 // The two kinds of position are types of their own, so that a minimum or a comparison never
 // crosses classes.
+#![tactic(auto)]
 mod class1;
 mod class2;
 
@@ -12,7 +13,7 @@ pub use class1::Pos1;
 pub use class2::Pos2;
 
 // The least position of each class on a route.
-#[derive(Drop)]
+#[derive(Clone, Copy)]
 pub struct Pair {
     pub p1: Pos1,
     pub p2: Pos2,

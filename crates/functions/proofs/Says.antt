@@ -22,7 +22,7 @@ use Rattle.tally.specs.Calls.{new_answer, added, add_answer, removed, remove_ans
 use Rattle.chance.specs.Chance.{weights}
 use Rattle.weights.specs.Calls.{ageing_answer, weights_answer}
 use Rattle.reliability.specs.Calls.{rate_answer}
-use Rattle.medlarbrace.specs.Interface.{result, header_tests, header_answer, place_values, place_answer}
+use Rattle.medlarbrace.specs.Interface.{value_left, header_tests, header_answer, place_values, place_answer}
 use Rattle.medlarbrace.proofs.Opened.{round-placed}
 use Rattle.runs.specs.Arguments.{u8, u32, u64, Block, block, lent}
 use Rattle.runs.specs.Run.{at, Held, Run, AlwaysEnds}
@@ -120,7 +120,7 @@ lookup-ends f r start count =
     always (round_function f r start count) (lookup-reads.known w₀ (λ i. lookup-symbol.routine) any_name lookup-symbol.routine refl (lookup-met.met w₀.𝓤 w₀.𝓛 w₀.𝓜 w₀.𝓡)) (λ κs. tt) (λ b κs γs. tt)
 
 abbrev lookup-left : List ℕ → ℕ → ℕ → ℕ → Outcome → List Block
-lookup-left f r start count a = block u8 f ∷ block u64 (result 0 a start ∷ []) ∷ block u64 (result 1 a count ∷ []) ∷ []
+lookup-left f r start count a = block u8 f ∷ block u64 (value_left 0 a start ∷ []) ∷ block u64 (value_left 1 a count ∷ []) ∷ []
 
 lookup-said : (f : List ℕ) (r start count : ℕ) → let a = place_answer f r in Says (round_function f r start count) a (lookup-left f r start count a)
 lookup-said f r start count others e =
@@ -134,7 +134,7 @@ search-ends f r out k =
     always (search_function f r out k) (search-reads.known w₀ (λ i. search-symbol.routine) any_name search-symbol.routine refl (search-met.met w₀.𝓤 w₀.𝓛 w₀.𝓜 w₀.𝓡)) (λ κs. tt) (λ b κs γs. tt)
 
 abbrev pub search-left : List ℕ → ℕ → List ℕ → Outcome → List Block
-search-left f k s a = block u8 f ∷ block u8 s ∷ block u64 (result 0 a k ∷ []) ∷ []
+search-left f k s a = block u8 f ∷ block u8 s ∷ block u64 (value_left 0 a k ∷ []) ∷ []
 
 pub search-said : (f : List ℕ) (r : ℕ) (out : List ℕ) (k : ℕ) → let a = search_answer f r (length out) in Says (search_function f r out k) a (search-left f k (filled a (search_bytes f r) out) a)
 search-said f r out k others e =
@@ -148,7 +148,7 @@ series-ends y z out k =
     always (series_function y z out k) (series-reads.known w₀ (λ i. series-symbol.routine) any_name series-symbol.routine refl (series-met.met w₀.𝓤 w₀.𝓛 w₀.𝓜 w₀.𝓡)) (λ κs. tt) (λ b κs γs. tt)
 
 abbrev series-left : List ℕ → List ℕ → ℕ → List ℕ → Outcome → List Block
-series-left y z k s a = block u8 y ∷ block u8 z ∷ block u8 s ∷ block u64 (result 0 a k ∷ []) ∷ []
+series-left y z k s a = block u8 y ∷ block u8 z ∷ block u8 s ∷ block u64 (value_left 0 a k ∷ []) ∷ []
 
 series-said : (y z out : List ℕ) (k : ℕ) → let a = series_answer y z (length out) in Says (series_function y z out k) a (series-left y z k (filled a (series_bytes y z) out) a)
 series-said y z out k others e =
@@ -212,7 +212,7 @@ score-ends t s =
     always (score_function t s) (score-reads.known w₀ (λ i. score-symbol.routine) any_name score-symbol.routine refl (score-met.met w₀.𝓤 w₀.𝓛 w₀.𝓜 w₀.𝓡)) (λ κs. tt) (λ b κs γs. tt)
 
 abbrev score-left : List ℕ → ℕ → Outcome → List Block
-score-left t s a = block u32 t ∷ block u32 (result 0 a s ∷ []) ∷ []
+score-left t s a = block u32 t ∷ block u32 (value_left 0 a s ∷ []) ∷ []
 
 score-said : (t : List ℕ) (s : ℕ) → let a = score_answer t in Says (score_function t s) a (score-left t s a)
 score-said t s others e =
@@ -226,7 +226,7 @@ ageing-ends y chance =
     always (ageing_function y chance) (ageing-reads.known w₀ (λ i. ageing-symbol.routine) any_name ageing-symbol.routine refl (ageing-met.met w₀.𝓤 w₀.𝓛 w₀.𝓜 w₀.𝓡)) (λ κs. tt) (λ b κs γs. tt)
 
 abbrev ageing-left : ℕ → ℕ → Outcome → List Block
-ageing-left y chance a = block u32 (result 0 a chance ∷ []) ∷ []
+ageing-left y chance a = block u32 (value_left 0 a chance ∷ []) ∷ []
 
 ageing-said : (y chance : ℕ) → let a = ageing_answer y in Says (ageing_function y chance) a (ageing-left y chance a)
 ageing-said y chance others e =
@@ -251,7 +251,7 @@ reliability-ends t p1 p2 s m r =
     always (reliability_function t p1 p2 s m r) (reliability-reads.known w₀ (λ i. reliability-symbol.routine) any_name reliability-symbol.routine refl (reliability-met.met w₀.𝓤 w₀.𝓛 w₀.𝓜 w₀.𝓡)) (λ κs. tt) (λ b κs γs. tt)
 
 abbrev reliability-left : List ℕ → ℕ → ℕ → ℕ → ℕ → ℕ → Outcome → List Block
-reliability-left t p1 p2 s m r a = block u32 t ∷ block u64 (result 0 a s ∷ []) ∷ block u64 (result 1 a m ∷ []) ∷ block u64 (result 2 a r ∷ []) ∷ []
+reliability-left t p1 p2 s m r a = block u32 t ∷ block u64 (value_left 0 a s ∷ []) ∷ block u64 (value_left 1 a m ∷ []) ∷ block u64 (value_left 2 a r ∷ []) ∷ []
 
 reliability-said : (t : List ℕ) (p1 p2 s m r : ℕ) → let a = rate_answer t p1 p2 in Says (reliability_function t p1 p2 s m r) a (reliability-left t p1 p2 s m r a)
 reliability-said t p1 p2 s m r others e =
@@ -265,7 +265,7 @@ writer-ends g out k =
     always (write_function g out k) (writer-reads.known w₀ (λ i. writer-symbol.routine) any_name writer-symbol.routine refl (writer-met.met w₀.𝓤 w₀.𝓛 w₀.𝓜 w₀.𝓡)) (λ κs. tt) (λ b κs γs. tt)
 
 abbrev writer-left : Given → ℕ → List ℕ → Outcome → List Block
-writer-left g k s a = block u8 g.nodes ∷ block u8 g.arcs ∷ block u8 g.rounds ∷ block u8 s ∷ block u64 (result 0 a k ∷ []) ∷ []
+writer-left g k s a = block u8 g.nodes ∷ block u8 g.arcs ∷ block u8 g.rounds ∷ block u8 s ∷ block u64 (value_left 0 a k ∷ []) ∷ []
 
 writer-said : (g : Given) (out : List ℕ) (k : ℕ) → let a = write_answer g (length out) in Says (write_function g out k) a (writer-left g k (filled a (study_bytes g) out) a)
 writer-said g out k others e =

@@ -7,7 +7,7 @@ use Rattle.std.specs.Int.{w32, w64}
 use Rattle.answer.specs.Outcome.{Outcome, success}
 use Rattle.slices.specs.Bytes.{part_at}
 use Rattle.writer.specs.Writer.{Given}
-use Rattle.medlarbrace.specs.Interface.{code, result, header_answer, header_out, place_answer}
+use Rattle.medlarbrace.specs.Interface.{code, value_left, header_answer, header_out, place_answer}
 use Rattle.runs.specs.Arguments.{u8, u32, u64, Block, block, number, shared, mutable, place, value, lent}
 use Rattle.runs.specs.Run.{at, Held, Run, run, Ends, AlwaysEnds}
 use Rattle.kinds.specs.Kinds as call
@@ -164,13 +164,13 @@ pub record EveryFunction : Type 0 where
   -- the answer goes where its pointer leads (`result`: the value's place in the answer; what was there, on a refusal)
   pub search-says : (c : call.SearchCall) (k : ℕ) → let a = call.search_result c in
       Says (search_function (call.search_file c) (call.search_round c) (call.search_lent c) k) a
-      (block u8 (call.search_file c) ∷ block u8 (call.search_left c) ∷ block u64 (result 0 a k ∷ []) ∷ [])
+      (block u8 (call.search_file c) ∷ block u8 (call.search_left c) ∷ block u64 (value_left 0 a k ∷ []) ∷ [])
   pub series-says : (c : call.SeriesCall) (k : ℕ) → let a = call.series_result c in
       Says (series_function (call.series_first c) (call.series_second c) (call.series_lent c) k) a
-      (block u8 (call.series_first c) ∷ block u8 (call.series_second c) ∷ block u8 (call.series_left c) ∷ block u64 (result 0 a k ∷ []) ∷ [])
+      (block u8 (call.series_first c) ∷ block u8 (call.series_second c) ∷ block u8 (call.series_left c) ∷ block u64 (value_left 0 a k ∷ []) ∷ [])
   pub parallel-says : (c : call.ParallelCall) (k : ℕ) → let a = call.parallel_result c in
       Says (parallel_function (call.parallel_first c) (call.parallel_second c) (call.parallel_lent c) k) a
-      (block u8 (call.parallel_first c) ∷ block u8 (call.parallel_second c) ∷ block u8 (call.parallel_left c) ∷ block u64 (result 0 a k ∷ []) ∷ [])
+      (block u8 (call.parallel_first c) ∷ block u8 (call.parallel_second c) ∷ block u8 (call.parallel_left c) ∷ block u64 (value_left 0 a k ∷ []) ∷ [])
   pub new-says : (c : call.NewCall) →
       Says (new_function (call.new_size1 c) (call.new_size2 c) (call.new_lent c)) (call.new_result c) (block u32 (call.new_left c) ∷ [])
   pub add-says : (c : call.AddCall) →
@@ -179,24 +179,24 @@ pub record EveryFunction : Type 0 where
       Says (remove_function (call.remove_record c) (call.remove_lent c)) (call.remove_result c)
       (block u8 (call.remove_record c) ∷ block u32 (call.remove_left c) ∷ [])
   pub score-says : (c : call.ScoreCall) (s : ℕ) → let a = call.score_result c in
-      Says (score_function (call.score_tally c) s) a (block u32 (call.score_tally c) ∷ block u32 (result 0 a s ∷ []) ∷ [])
+      Says (score_function (call.score_tally c) s) a (block u32 (call.score_tally c) ∷ block u32 (value_left 0 a s ∷ []) ∷ [])
   pub ageing-says : (c : call.AgeingCall) (chance : ℕ) → let a = call.ageing_result c in
-      Says (ageing_function (call.ageing_age c) chance) a (block u32 (result 0 a chance ∷ []) ∷ [])
+      Says (ageing_function (call.ageing_age c) chance) a (block u32 (value_left 0 a chance ∷ []) ∷ [])
   pub weights-says : (c : call.WeightsCall) →
       Says (weights_function (call.weights_nodes c) (call.weights_chance c) (call.weights_lent c)) (call.weights_result c) (block u32 (call.weights_left c) ∷ [])
   pub reliability-says : (c : call.RateCall) (s m r : ℕ) → let a = call.rate_result c in
       Says (reliability_function (call.rate_tally c) (call.rate_chance1 c) (call.rate_chance2 c) s m r) a
-      (block u32 (call.rate_tally c) ∷ block u64 (result 0 a s ∷ []) ∷ block u64 (result 1 a m ∷ []) ∷ block u64 (result 2 a r ∷ []) ∷ [])
+      (block u32 (call.rate_tally c) ∷ block u64 (value_left 0 a s ∷ []) ∷ block u64 (value_left 1 a m ∷ []) ∷ block u64 (value_left 2 a r ∷ []) ∷ [])
   pub writer-says : (c : call.WriteCall) (k : ℕ) → let a = call.write_result c in let g = call.write_given c in
       Says (write_function g (call.write_lent c) k) a
-      (block u8 g.nodes ∷ block u8 g.arcs ∷ block u8 g.rounds ∷ block u8 (call.write_left c) ∷ block u64 (result 0 a k ∷ []) ∷ [])
+      (block u8 g.nodes ∷ block u8 g.arcs ∷ block u8 g.rounds ∷ block u8 (call.write_left c) ∷ block u64 (value_left 0 a k ∷ []) ∷ [])
   pub converter-says : (c : call.ConvertCall) (k : ℕ) → let a = call.convert_result c in
       Says (convert_function (call.convert_file c) (call.convert_lent c) k) a
-      (block u8 (call.convert_file c) ∷ block u8 (call.convert_left c) ∷ block u64 (result 0 a k ∷ []) ∷ [])
+      (block u8 (call.convert_file c) ∷ block u8 (call.convert_left c) ∷ block u64 (value_left 0 a k ∷ []) ∷ [])
   -- opening into seven words (opening's numbers, then 15), and lookup by place (lookup's): the place and length of the part that lookup hands back
   pub opening-says : (f header : List ℕ) → Says (open_function f header) (header_answer f (length header)) (block u8 f ∷ block u32 (header_out f header) ∷ [])
   pub lookup-says : (f : List ℕ) (r start count : ℕ) → let a = place_answer f r in
-      Says (round_function f r start count) a (block u8 f ∷ block u64 (result 0 a start ∷ []) ∷ block u64 (result 1 a count ∷ []) ∷ [])
+      Says (round_function f r start count) a (block u8 f ∷ block u64 (value_left 0 a start ∷ []) ∷ block u64 (value_left 1 a count ∷ []) ∷ [])
   pub lookup-placed : (c : call.LookupCall) (start count : ℕ) → place_answer (call.lookup_file c) (call.lookup_round c) ≡ success (start ∷ count ∷ [])
       → (start + count ≤ length (call.lookup_file c)) × (call.lookup_result c ≡ part_at start count (call.lookup_file c))
   -- a number other than 0 leaves every lent block as it was

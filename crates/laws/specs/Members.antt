@@ -130,7 +130,7 @@ module _ {A B : Type 0} (f : A → List B) where
   concat_map-out (x ∷ xs) h = ⊎_elim (λ k. (x, here, k)) (λ k. let r = concat_map-out xs k in (r.0, there r.1, r.2)) (Memᴰ.append_cases (f x) h)
   concat_map-out [] h = elim h [ ]
 
-  pub concat_map-in : {l : List A} {x : A} {y : B} → x ∈ l → y ∈ f x → y ∈ concat_map l
+  pub concat_map-in : {x : A} {l : List A} {y : B} → x ∈ l → y ∈ f x → y ∈ concat_map l
   concat_map-in {y = y} (Memᴰ.head {x = z} {xs = zs} e) h = Memᴰ.append_left (concat_map zs) (subst (λ w. y ∈ f w) e h)
   concat_map-in (Memᴰ.tail {x = z} m) h = Memᴰ.append_right (f z) (concat_map-in m h)
 

@@ -1,4 +1,5 @@
 // Document 01's limits, and the sizes of the parts of a study file.
+#![tactic(auto)]
 
 // The least N, the nodes of a study.
 pub const MIN_NODES: usize = 2;

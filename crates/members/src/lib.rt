@@ -1,5 +1,6 @@
 // The members of both classes, nodes by number and then arcs by place, and a round's orders by
 // element.
+#![tactic(auto)]
 ghost use Rattle.std.specs.Prelude.{◌≡◌, ℕ, ◌+◌, ◌*◌, ◌≤◌, ◌<◌, length, get_or, take};
 ghost use Rattle.limits.specs.Limits.{max_nodes, max_arcs, arc_size};
 ghost use Rattle.laws.specs.Members.{◌∈◌};
@@ -15,7 +16,7 @@ use slices::wide;
 const TABLE: usize = MAX_CLASS + 1;
 
 // How many members of each class are in their tables.
-#[derive(Drop)]
+#[derive(Clone, Copy)]
 struct Sizes {
     n1: usize,
     n2: usize,

@@ -1,1 +1,2 @@
 // Networks, walks and routes: definitions and theorems only (specs/, proofs/).
+#![tactic(auto)]

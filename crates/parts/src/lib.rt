@@ -1,5 +1,6 @@
 // The tests of a study's parts that opening and writer share: numbers 2, 3, 5, 8, 32 and 6, and number
 // 11 over all rounds.
+#![tactic(auto)]
 ghost use Rattle.std.specs.Prelude.{◌≡◌, false, not, ◌&&◌, map, ◌+◌, ◌*◌, ◌≤◌, ◌<◌, length, take, drop};
 ghost use Rattle.limits.specs.Limits.{max_nodes, arc_size, arc_count, max_class, max_round_size, max_rounds};
 ghost use Rattle.laws.specs.Members.{all};
@@ -16,7 +17,7 @@ use orders::{are_orders, count};
 use slices::{part, wide};
 
 // What the tests of nodes and arcs find: n1 and n2, or a refusal.
-#[derive(Drop)]
+#[derive(Clone, Copy)]
 pub enum Counted {
     Sizes(usize, usize),
     Refused(Refusal),
@@ -94,7 +95,7 @@ const BLOCK: usize = 16;
 const BLOCK_BYTES: usize = ARC * BLOCK;
 
 // A block of entries: whether one is bad, and, if none is, how many are of classes 1 and 2.
-#[derive(Drop)]
+#[derive(Clone, Copy)]
 struct Block {
     bad: bool,
     n1: u8,
@@ -130,7 +131,7 @@ fn look(n: u8, fields: &[u8], arcs: &[u8], i: usize) -> Block
 }
 
 // The entries before place i are good, and n1 and n2 of them are of classes 1 and 2.
-#[derive(Drop)]
+#[derive(Clone, Copy)]
 struct Begun {
     i: usize,
     n1: usize,

@@ -1,4 +1,5 @@
 // Front records as bytes: n1, n2, k, then k pairs of bytes, p1 falling and p2 rising.
+#![tactic(auto)]
 mod valid;
 
 ghost use Rattle.std.specs.Prelude.{◌≡◌};
@@ -10,7 +11,7 @@ use slices::{byte, wide};
 pub use valid::is_record;
 
 // The three bytes in front of the pairs.
-#[derive(Drop)]
+#[derive(Clone, Copy)]
 pub struct Head {
     pub n1: u8,
     pub n2: u8,

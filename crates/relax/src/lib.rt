@@ -1,5 +1,6 @@
 // Labels relaxed along the arcs into a node. Two slices hold the network: `capacities` those of
 // class 1 of all nodes and then those of class 2, `links` the chains of arcs.
+#![tactic(auto)]
 ghost use Rattle.std.specs.Prelude.{◌≡◌, ◌-◌};
 ghost use Rattle.relax.specs.Steps.{Graph, moved, mark_at, growth, Work, Kept, Ready};
 
@@ -8,7 +9,7 @@ use slices::{wide, wide_two};
 
 // Where a spread stands: the source; x, one more than the class 1 failures; the level that spreads,
 // the node at work and the height of the stack.
-#[derive(Drop)]
+#[derive(Clone, Copy)]
 pub struct Step {
     pub source: usize,
     pub x: Pos1,

@@ -1,4 +1,5 @@
 // The reporting program: a study file on standard input, its report on standard output.
+#![tactic(auto)]
 mod output;
 
 ghost use Rattle.std.specs.Prelude.{◌≡◌, true, ◌≤◌, T, length};
@@ -18,7 +19,7 @@ use output::Sent;
 use soundness::LARGEST;
 
 // A line in the buffer, and whether another follows.
-#[derive(Drop)]
+#[derive(Clone, Copy)]
 struct Line {
     length: usize,
     more: bool,

@@ -8,7 +8,7 @@ ghost use Rattle.lines.specs.Report.{report_lines, line_at};
 use libc::STDOUT_FILENO;
 
 // How many lines of a report the system took, in order from line 0, and whether none failed.
-#[derive(Drop)]
+#[derive(Clone, Copy)]
 pub struct Sent {
     lines: usize,
     whole: bool,

@@ -1,4 +1,5 @@
 // A tally's words, and whether it is sound.
+#![tactic(auto)]
 ghost use Rattle.std.specs.Prelude.{◌≡◌, ◌+◌, ◌*◌, ◌≤◌, length};
 ghost use Rattle.limits.specs.Limits.{max_class};
 ghost use Rattle.answer.specs.Outcome.{done};
@@ -23,7 +24,7 @@ pub const LARGEST: usize = HEAD + (MAX_CLASS + 1) * (MAX_CLASS + 1);
 pub const FULL: u32 = MAX_ROUNDS as u32;
 
 // What a pass over cells finds: whether each is at most another, and their sum, cut to a word.
-#[derive(Drop)]
+#[derive(Clone, Copy)]
 struct Passed {
     rises: bool,
     sum: u32,

@@ -1,5 +1,6 @@
 // Answers of calls as numbers, and how often each number came, alone and with another that applied
 // too.
+#![tactic(auto)]
 ghost use Rattle.std.specs.Prelude.{◌≤◌};
 
 use answer::{Done, Opened, Written};

@@ -1,5 +1,6 @@
 // Document 01's E, exact: large numbers in words below 10^6, the lowest first. No code is shared
 // with the library.
+#![tactic(auto)]
 ghost use Rattle.std.specs.Prelude.{◌≤◌};
 
 use test_support::{byte, put, times, word};
@@ -101,7 +102,7 @@ fn any(a: &[u32], n: usize) -> bool {
 }
 
 // The whole part, and whether anything is left below it.
-#[derive(Drop)]
+#[derive(Clone, Copy)]
 pub struct Quotient {
     pub whole: u64,
     pub more: bool,

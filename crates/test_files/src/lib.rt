@@ -1,18 +1,19 @@
 // A plain reading of the study file, document 01 and S-4 of document 02: all tests are made, and the
 // first that applies is the answer.
+#![tactic(auto)]
 ghost use Rattle.std.specs.Prelude.{◌≡◌, ◌+◌, ◌≤◌, ◌<◌, length};
 
 use test_support::{byte, poke};
 
 // The first two tests that applied; 0 for none.
-#[derive(Drop)]
+#[derive(Clone, Copy)]
 pub struct Judged {
     pub first: usize,
     pub second: usize,
 }
 
 // Document 01's A, M, s and t.
-#[derive(Drop)]
+#[derive(Clone, Copy)]
 pub struct Numbers {
     pub arcs: usize,
     pub rounds: usize,

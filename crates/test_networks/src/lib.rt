@@ -1,4 +1,5 @@
 // Networks made from a seed: node bytes, arc bytes and rounds of a study.
+#![tactic(auto)]
 ghost use Rattle.std.specs.Prelude.{◌+◌, ◌≤◌, ◌<◌, length};
 
 use test_support::{byte, flag, pick, poke, times};
@@ -14,7 +15,7 @@ fn draw(seed: u64, use_of: u64, n: u64) -> u64
 
 // What a network is like: its kind, N, A, s, t, the most nodes of a class; how arcs lead and fail,
 // and how many arcs of each class do.
-#[derive(Drop)]
+#[derive(Clone, Copy)]
 pub struct Shape {
     pub kind: u64,
     pub nodes: u64,

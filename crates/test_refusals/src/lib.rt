@@ -11,6 +11,7 @@
 //   112 round, 116 trailer
 //   148 the first record, 157 the second, 162 the tally, its score 165 and its cells from 166 on: no
 //   cell above 0, but for remove and score
+#![tactic(auto)]
 ghost use Rattle.std.specs.Prelude.{◌+◌, ◌≤◌, ◌<◌};
 
 use answer::{Aged, Done, Opened, Rated, Scored, Written};

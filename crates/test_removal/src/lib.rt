@@ -1,5 +1,6 @@
 // Removal testing, all routes one by one, and how many rounds hold: no code is shared with the
 // library.
+#![tactic(auto)]
 ghost use Rattle.std.specs.Prelude.{◌≡◌, ◌+◌, ◌≤◌, ◌<◌, length};
 
 use test_support::{byte, flag, poke, put, record_holds, word};
@@ -8,7 +9,7 @@ use test_support::{byte, flag, poke, put, record_holds, word};
 const PAST: usize = 1000000;
 
 // Document 01's N, s and t. What may fail is numbered from 0: the nodes, then the arcs by place.
-#[derive(Drop)]
+#[derive(Clone, Copy)]
 pub struct Network {
     pub nodes: usize,
     pub source: usize,
@@ -207,7 +208,7 @@ pub fn held(tables: &[u8], n1: usize, n2: usize, out: &mut [u8])
 // A route under way: the node it has come to, the least positions on it, the nodes and the ways of
 // arcs that it took, and how many steps it may still take. Way 2 × i leads along arc i, way
 // 2 × i + 1 against it.
-#[derive(Drop)]
+#[derive(Clone, Copy)]
 struct Route {
     at: u64,
     p1: u64,

@@ -1,4 +1,5 @@
 // Generated studies: good ones of all sizes, and damaged ones.
+#![tactic(auto)]
 ghost use Rattle.std.specs.Prelude.{◌≡◌, ◌≤◌, ◌<◌, length};
 
 use test_files::{members, minus, size_of};

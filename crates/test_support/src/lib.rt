@@ -1,5 +1,6 @@
 // What the test programs share: numbers from a seed, bytes and words read and stored without a
 // thought for ends, comparison, where a record holds, and lines of output.
+#![tactic(auto)]
 ghost use Rattle.std.specs.Prelude.{◌≤◌, ◌<◌};
 
 use libc::STDOUT_FILENO;

@@ -1,5 +1,6 @@
 // A plain reading of documents 01 and 02 for tallies, weights and reliability, cell by cell: no code
 // is shared with the library.
+#![tactic(auto)]
 ghost use Rattle.std.specs.Prelude.{◌+◌, ◌*◌, ◌≤◌, ◌<◌};
 
 use test_support::{byte, flag, pick, poke, put, record_holds, word};
@@ -49,7 +50,7 @@ pub fn junk(seed: u64, t: &mut [u32]) {
 }
 
 // ---- records
-#[derive(Drop)]
+#[derive(Clone, Copy)]
 pub struct Sizes {
     pub n1: u64,
     pub n2: u64,

@@ -2,6 +2,7 @@
 // every byte with a plain reading that shares no code with the library; the fronts of converted
 // studies against removal testing on the old ones. Nothing in a file tells its form: opening reads
 // the old files as new ones, and the converter new files as old ones.
+#![tactic(auto)]
 mod edges;
 mod fronts;
 mod made;

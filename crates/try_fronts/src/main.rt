@@ -1,5 +1,6 @@
 // Runs series and parallel on generated records, good and damaged, and compares every answer and
 // every byte with a plain check, cell by cell, that shares no code with the library.
+#![tactic(auto)]
 mod cases;
 mod plain;
 
@@ -8,7 +9,7 @@ use libc::STDOUT_FILENO;
 use test_support::line;
 
 // What a run has seen.
-#[derive(Drop)]
+#[derive(Clone, Copy)]
 struct Counts {
     tried: u64,
     written: u64,

@@ -1,6 +1,7 @@
 // The whole library on generated networks, whose nodes and arcs fail, against removal testing:
 // opening, searches and plans, every front at every (a, b) and the small ones against all routes,
 // tallies, and reliability by exact arithmetic. Then every refusal of every call.
+#![tactic(auto)]
 mod features;
 
 ghost use Rattle.std.specs.Prelude.{◌≤◌, ◌<◌, length};
@@ -13,7 +14,7 @@ use test_removal::Network;
 use test_support::{byte, equal, flag, line, part, times};
 
 // A network, its class sizes, and whether it is small enough for all routes.
-#[derive(Drop)]
+#[derive(Clone, Copy)]
 pub struct Case {
     net: Network,
     n1: usize,

@@ -1,5 +1,6 @@
 // Lists of adds and removes, legal and not, and the score after each step, against a plain reading of
 // documents 01 and 02, counted.
+#![tactic(auto)]
 
 ghost use Rattle.std.specs.Prelude.{◌≤◌, ◌<◌};
 
@@ -288,7 +289,7 @@ fn is_held(record: &[u8], records: &[u8], held: &[u32]) -> bool {
 
 // A list: where it is legal a remove is of a record that was added and not yet removed. Whether
 // nothing but calls changed the tally since it was new.
-#[derive(Drop)]
+#[derive(Clone, Copy)]
 struct List {
     seed: u64,
     legal: bool,

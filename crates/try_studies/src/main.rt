@@ -1,6 +1,7 @@
 // Runs the writer, opening and lookup on generated studies, good and damaged, and compares every
 // answer and every byte with a plain reading of the study file that shares no code with the library.
 // Then each limit from both sides.
+#![tactic(auto)]
 mod edges;
 
 ghost use Rattle.std.specs.Prelude.{◌≤◌, length};

@@ -1,5 +1,6 @@
 // New, add, weights and reliability on generated tallies, good and damaged, against a plain reading
 // of documents 01 and 02, counted; and ageing, age by age.
+#![tactic(auto)]
 
 ghost use Rattle.std.specs.Prelude.{◌≤◌, ◌<◌, length};
 

@@ -1,7 +1,7 @@
 -- `medlarbrace_convert` passes on what the converter answers.
 use mathlib.Core.Path.{ap, ◌∙◌}
 use borrow.Author.Rules.{rules}
-use Rattle.medlarbrace.specs.Interface.{code, result}
+use Rattle.medlarbrace.specs.Interface.{code, value_left}
 use Rattle.medlarbrace.proofs.files.medlarbrace_convert.Statement.{statement}
 use Rattle.medlarbrace.proofs.files.medlarbrace_convert.Tie as tie
 
@@ -18,7 +18,7 @@ returns : tie.Need-returns
 returns c =
     let e = c.before.before.before.before.convert.ensures in
     let l = c.code-and-length.ensures in
-    (l.0 ∙ ap code e.0, (e.1, l.1 ∙ ap (λ a. result 0 a c.before.before.before.before.before.before.before.before.args.written.now) e.0))
+    (l.0 ∙ ap code e.0, (e.1, l.1 ∙ ap (λ a. value_left 0 a c.before.before.before.before.before.before.before.before.args.written.now) e.0))
 
 pub medlarbrace-convert-spec : {M : Type 1} → statement M
 medlarbrace-convert-spec =

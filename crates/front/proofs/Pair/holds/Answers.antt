@@ -1,0 +1,6 @@
+-- `Pair::holds` asks whether both positions outlast the failures of their class.
+use borrow.Author.Rules.{rules}
+use Rattle.front.proofs.Pair.holds.Goals as goal
+
+pub returns : goal.returns
+returns c = rw (c.outlasts.ensures, c.outlasts-2.ensures)

@@ -1,0 +1,9 @@
+-- `slices::byte` is 0 past the end.
+use mathlib.Core.Path.{sym}
+use Prim.Native.Nat.{◌-◌}
+use borrow.Author.Rules.{rules}
+use lib.ListN.{get_or-eq_default}
+use Rattle.slices.proofs.byte.Goals as goal
+
+pub returns-else-at-bytes : goal.returns-else-at-bytes
+returns-else-at-bytes c = sym (get_or-eq_default c.args.bytes.now 0 c.if-at-bytes.false)
