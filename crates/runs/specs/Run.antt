@@ -16,7 +16,7 @@ use Rattle.runs.specs.Call.{Call, after}
 use Rattle.runs.specs.Arguments.{Elem, Of, ty, val, Small, Block, block, All, SliceFits}
 use Rattle.runs.specs.Arguments.{Arg, number, real, shared, mutable, place, Result, value, part, Fit, lent, values, kinds, kind, Names, args_of}
 
--- ---- BEFORE: a block's elements side by side, as the machine stores them (an integer with its lowest byte first)
+-- ---- BEFORE: a block's elements side by side, as the machine stores them (an integer with its lowest byte first); every block may be written
 abbrev pub cells : (e : Elem) → List (Of e) → List Cell
 cells e [] = []
 cells e (x ∷ xs) = enc (ty e) (val e x) ++ cells e xs
@@ -90,7 +90,7 @@ pub record Possible {n : ℕ} {ps : List (ParamKind n)} {r : ResultKind n} {prom
 
 -- IT ENDS, in a memory with these other blocks
 pub record Ends (others : List Block) (c : Run) : Type 0 where
-  -- from the start, which holds them and what is lent, the code returns with some fuel a value and a memory
+  -- from the start, which holds them and what is lent, the code, with no other thread beside it (`step`), returns with some fuel a value and a memory
   pub others-began : Held (memory_before others c.args) 2 others
   pub began : Held (memory_before others c.args) (at others) (lent c.args)
   pub fuel : ℕ
