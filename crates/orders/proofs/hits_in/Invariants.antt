@@ -1,0 +1,15 @@
+-- `orders::hits_in`: what was counted, and what stands from the next place on, make what stands from `at` on.
+use mathlib.Core.Path.{◌≡◌, ap}
+use Prim.Native.Nat.{◌+◌, ◌-◌, ◌*◌, ◌≤◌}
+use native.Mathlib.Omega.{arith}
+use lib.ListN.{drop}
+use borrow.Author.Rules.{rules}
+use Rattle.orders.specs.Order.{count}
+use Rattle.orders.proofs.Scans.{count_next, count-part}
+use Rattle.orders.proofs.hits_in.Given as goal
+
+abbrev pub invariant-loop-i : goal.invariant-loop-i
+invariant-loop-i l = (l.i ≤ 32) × (l.hits ≤ 2 * l.i) × (2 * count l.x (drop l.at l.places) ≡ l.hits + 2 * count l.x (drop (l.at + l.i) l.places))
+
+abbrev pub decreases-loop-i : goal.decreases-loop-i
+decreases-loop-i l = 32 - l.i
