@@ -1,5 +1,6 @@
 // A record that is built pair by pair, at the start of a buffer with room for any record.
 #![tactic(auto)]
+
 ghost use Rattle.std.specs.Prelude.{◌≡◌, [], ◌++◌, ◌∷◌, ◌≤◌, ◌<◌, ◌-◌, length, replicate};
 ghost use Rattle.limits.specs.Limits.{max_class};
 ghost use Rattle.answer.specs.Outcome.{written, fill_answer, fill_out};

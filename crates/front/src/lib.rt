@@ -3,6 +3,7 @@
 // The two kinds of position are types of their own, so that a minimum or a comparison never
 // crosses classes.
 #![tactic(auto)]
+
 mod class1;
 mod class2;
 

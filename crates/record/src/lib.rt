@@ -1,5 +1,6 @@
 // Front records as bytes: n1, n2, k, then k pairs of bytes, p1 falling and p2 rising.
 #![tactic(auto)]
+
 mod valid;
 
 ghost use Rattle.std.specs.Prelude.{◌≡◌};

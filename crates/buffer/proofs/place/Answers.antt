@@ -1,5 +1,4 @@
 -- `buffer::place` stores the count and the two bytes of a pair.
-use borrow.Author.Rules.{rules}
 use Rattle.buffer.proofs.place.Goals as goal
 
 pub returns : goal.returns

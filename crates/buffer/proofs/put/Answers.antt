@@ -2,7 +2,6 @@
 use mathlib.Core.Path.{◌≡◌, sym, ap, ◌∙◌}
 use Prim.Native.Nat.{◌-◌}
 use native.Mathlib.Omega.{arith}
-use borrow.Author.Rules.{rules}
 use lib.ListN.{length}
 use Rattle.front.specs.Pair.{covers, dominates}
 use Rattle.record.specs.Record.{pair_count}
@@ -27,7 +26,6 @@ pub returns-then-dominates : goal.returns-then-dominates
 returns-then-dominates c =
     let dominated : let a = c.args in
     dominates a.p (pair_at a.buffer.now (pair_count a.buffer.now - 1)) ≡ c.dominates.result = ap (dominates c.args.p) (sym c.pair_at-last.ensures) ∙ sym c.dominates.ensures in
-    
     let b = c.args.buffer.now in record { long = ap length c.place-then-dominates.ensures ∙ stored-long b (pair_count b - 1) c.args.p ∙ c.requires.long; front = ap record_in c.place-then-dominates.ensures ∙ wrote-over c.requires (omega arith) (dominated ∙ c.if-dominates.true) }
 
 pub place-requires-2 : goal.place-requires-2
@@ -44,5 +42,4 @@ returns c =
     dominates a.p (pair_at a.buffer.now (pair_count a.buffer.now - 1)) ≡ c.dominates.result = ap (dominates c.args.p) (sym c.pair_at-last.ensures) ∙ sym c.dominates.ensures in
     let covered : let a = c.args in
     covers (pair_at a.buffer.now (pair_count a.buffer.now - 1)) a.p ≡ c.covers.result = ap (λ x. covers x c.args.p) (sym c.pair_at-last.ensures) ∙ sym c.covers.ensures in
-    
     let b = c.args.buffer.now in record { long = ap length c.place-2.ensures ∙ stored-long b (pair_count b) c.args.p ∙ c.requires.long; front = ap record_in c.place-2.ensures ∙ wrote-behind c.requires (omega arith) (covered ∙ c.if-covers.false) (dominated ∙ c.if-dominates.false) }

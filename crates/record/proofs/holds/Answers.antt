@@ -1,11 +1,6 @@
 -- `record::holds`: no pair before `at` holds, so what is left from there on decides.
-use mathlib.Core.Path.{◌≡◌, refl, sym, ◌∙◌}
-use Prim.Native.Nat.{◌-◌}
+use mathlib.Core.Path.{refl, sym, ◌∙◌}
 use native.Mathlib.Omega.{arith}
-use borrow.Author.Rules.{rules}
-use lib.ListN.{drop, length}
-use Rattle.front.specs.Front.{holds}
-use Rattle.record.specs.Record.{listed, paired}
 use Rattle.record.proofs.Scans.{holds-next, holds-end}
 use Rattle.record.proofs.holds.Goals as goal
 

@@ -1,12 +1,9 @@
 -- `record::holds`: no pair before `at` holds, so what is left from there on decides.
-use mathlib.Core.Path.{◌≡◌, refl, sym, ◌∙◌}
+use mathlib.Core.Path.{◌≡◌}
 use Prim.Native.Nat.{◌-◌}
-use native.Mathlib.Omega.{arith}
-use borrow.Author.Rules.{rules}
 use lib.ListN.{drop, length}
 use Rattle.front.specs.Front.{holds}
 use Rattle.record.specs.Record.{listed, paired}
-use Rattle.record.proofs.Scans.{holds-next, holds-end}
 use Rattle.record.proofs.holds.Given as goal
 
 abbrev pub invariant-loop-at : goal.invariant-loop-at

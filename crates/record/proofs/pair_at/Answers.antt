@@ -1,7 +1,6 @@
 -- `record::pair_at` reads the two bytes of a pair.
 use mathlib.Core.Path.{ap, ap₂, ◌∙◌}
 use native.Mathlib.Omega.{arith}
-use borrow.Author.Rules.{rules}
 use lib.ListN.{get_or}
 use Rattle.front.specs.Pair.{pair_of}
 use Rattle.record.proofs.pair_at.Goals as goal

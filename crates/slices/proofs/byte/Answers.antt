@@ -1,7 +1,5 @@
 -- `slices::byte` is 0 past the end.
 use mathlib.Core.Path.{sym}
-use Prim.Native.Nat.{◌-◌}
-use borrow.Author.Rules.{rules}
 use lib.ListN.{get_or-eq_default}
 use Rattle.slices.proofs.byte.Goals as goal
 

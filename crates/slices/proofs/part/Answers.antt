@@ -2,7 +2,6 @@
 use mathlib.Core.Path.{◌≡◌, refl, sym, ap, ◌∙◌}
 use Prim.Native.Nat.{◌+◌, ◌-◌}
 use native.Mathlib.Omega.{arith}
-use borrow.Author.Rules.{rules}
 use lib.ListN.{drop_of_length-le, length, take, drop, length-take, length-drop}
 use lib.Seq.{take-nil, take_all}
 use Rattle.laws.specs.Parts.{tail-part}

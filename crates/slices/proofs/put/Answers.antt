@@ -1,9 +1,8 @@
 -- `slices::put`: i bytes are copied.
 use mathlib.Core.Path.{◌≡◌, sym, ap, ◌∙◌}
 use mathlib.Core.List.{◌++◌}
-use Prim.Native.Nat.{suc, ◌+◌, ◌-◌, ◌≤◌}
+use Prim.Native.Nat.{suc, ◌+◌}
 use native.Mathlib.Omega.{arith}
-use borrow.Author.Rules.{rules}
 use lib.ListN.{take, drop, length, get_or, set}
 use lib.Seq.{paste, paste-zero, paste-suc, length-paste, take-length}
 use Rattle.slices.proofs.put.Goals as goal

@@ -1,11 +1,8 @@
 -- `slices::put`: i bytes are copied.
-use mathlib.Core.Path.{◌≡◌, sym, ap, ◌∙◌}
-use mathlib.Core.List.{◌++◌}
-use Prim.Native.Nat.{suc, ◌+◌, ◌-◌, ◌≤◌}
-use native.Mathlib.Omega.{arith}
-use borrow.Author.Rules.{rules}
-use lib.ListN.{take, drop, length, get_or, set}
-use lib.Seq.{paste, paste-zero, paste-suc, length-paste, take-length}
+use mathlib.Core.Path.{◌≡◌}
+use Prim.Native.Nat.{◌-◌, ◌≤◌}
+use lib.ListN.{length}
+use lib.Seq.{paste}
 use Rattle.slices.proofs.put.Given as goal
 
 abbrev pub invariant-loop-i : goal.invariant-loop-i

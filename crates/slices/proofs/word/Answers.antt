@@ -1,8 +1,7 @@
 -- `slices::word` reads its four bytes from a part.
 use mathlib.Core.Path.{◌≡◌, ap}
-use Prim.Native.Nat.{ℕ, ◌-◌}
+use Prim.Native.Nat.{ℕ}
 use native.Mathlib.Omega.{arith}
-use borrow.Author.Rules.{rules}
 use lib.ListN.{get_or}
 use Rattle.slices.specs.Bytes.{part_at}
 use Rattle.slices.proofs.Words.{word-part}

@@ -1,5 +1,4 @@
 -- `Pair::dominates` is covering and not the same.
-use borrow.Author.Rules.{rules}
 use Rattle.front.proofs.Pair.dominates.Goals as goal
 
 pub returns : goal.returns

@@ -1,5 +1,4 @@
 -- `Pair::holds` asks whether both positions outlast the failures of their class.
-use borrow.Author.Rules.{rules}
 use Rattle.front.proofs.Pair.holds.Goals as goal
 
 pub returns : goal.returns

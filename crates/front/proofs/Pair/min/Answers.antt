@@ -1,5 +1,4 @@
 -- `Pair::min` takes the smaller position of each class.
-use borrow.Author.Rules.{rules}
 use Rattle.front.proofs.Pairs.{pair_eq}
 use Rattle.front.proofs.Pair.min.Goals as goal
 

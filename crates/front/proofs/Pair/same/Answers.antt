@@ -1,5 +1,4 @@
 -- `Pair::same` compares the two positions of each class.
-use borrow.Author.Rules.{rules}
 use Rattle.front.proofs.Pair.same.Goals as goal
 
 pub returns : goal.returns

@@ -2,7 +2,6 @@
 use mathlib.Core.Path.{ap₂, ◌∙◌}
 use mathlib.Core.Bool.{◌&&◌}
 use native.Mathlib.Omega.{arith}
-use borrow.Author.Rules.{rules}
 use Rattle.laws.specs.Members.{all}
 use Rattle.record.specs.Record.{listed, in_range, falling}
 use Rattle.record.proofs.Records.{not-record, pairs_decide, record-few}

@@ -1,10 +1,8 @@
 -- `record::pairs_fit`: the pairs before i fit, so those from i on decide.
 use mathlib.Core.Path.{◌∙◌, ◌≡◌, sym, ap}
 use mathlib.Core.Bool.{◌&&◌}
-use Prim.Native.Nat.{◌+◌, ◌-◌, ◌≤◌}
+use Prim.Native.Nat.{◌+◌}
 use native.Mathlib.Omega.{arith}
-use borrow.Author.Tests.{not-true, not-false}
-use borrow.Author.Rules.{rules}
 use Rattle.laws.specs.Members.{all}
 use Rattle.record.specs.Record.{listed, in_range, falling}
 use Rattle.record.proofs.Scans.{fit_from, fit-first, fit_next, fit-last}
@@ -21,7 +19,7 @@ returns-then-not-fits c =
     let turn : let l = listed c.args.bytes.now in
     let n1 = c.args.n1 in
     let n2 = c.args.n2 in
-    (all (in_range n1 n2) l && falling l) ≡ (c.fits.result && fit_from n1 n2 l c.pair_at-p.result (c.loop-i.i + 1)) = 
+    (all (in_range n1 n2) l && falling l) ≡ (c.fits.result && fit_from n1 n2 l c.pair_at-p.result (c.loop-i.i + 1)) =
     let b = c.args.bytes.now in
     let l = c.loop-i in
     l.invariant.1
@@ -34,7 +32,7 @@ loop-i-preserved c =
     let turn : let l = listed c.args.bytes.now in
     let n1 = c.args.n1 in
     let n2 = c.args.n2 in
-    (all (in_range n1 n2) l && falling l) ≡ (c.fits.result && fit_from n1 n2 l c.pair_at-p.result (c.loop-i.i + 1)) = 
+    (all (in_range n1 n2) l && falling l) ≡ (c.fits.result && fit_from n1 n2 l c.pair_at-p.result (c.loop-i.i + 1)) =
     let b = c.args.bytes.now in
     let l = c.loop-i in
     l.invariant.1
@@ -43,7 +41,7 @@ loop-i-preserved c =
     (omega arith, turn ∙ rw c.if-not-fits.false)
 
 pub returns : goal.returns
-returns c = 
+returns c =
     let b = c.args.bytes.now in
     let l = c.loop-i in
     sym (l.invariant.1 ∙ fit-last c.args.n1 c.args.n2 (listed b) l.last l.i (omega (arith, listed-length b c.requires.2)))

@@ -1,14 +1,10 @@
 -- `record::pairs_fit`: the pairs before i fit, so those from i on decide.
-use mathlib.Core.Path.{◌∙◌, ◌≡◌, sym, ap}
+use mathlib.Core.Path.{◌≡◌}
 use mathlib.Core.Bool.{◌&&◌}
-use Prim.Native.Nat.{◌+◌, ◌-◌, ◌≤◌}
-use native.Mathlib.Omega.{arith}
-use borrow.Author.Tests.{not-true, not-false}
-use borrow.Author.Rules.{rules}
+use Prim.Native.Nat.{◌-◌, ◌≤◌}
 use Rattle.laws.specs.Members.{all}
 use Rattle.record.specs.Record.{listed, in_range, falling}
-use Rattle.record.proofs.Scans.{fit_from, fit-first, fit_next, fit-last}
-use Rattle.record.proofs.Bytes.{pair-at, listed-length}
+use Rattle.record.proofs.Scans.{fit_from}
 use Rattle.record.proofs.valid.pairs_fit.Given as goal
 
 abbrev pub invariant-loop-i : goal.invariant-loop-i
