@@ -1,5 +1,6 @@
 // The reporting program: a study file on standard input, its report on standard output.
 #![tactic(auto)]
+
 mod output;
 
 ghost use Rattle.std.specs.Prelude.{◌≡◌, true, ◌≤◌, T, length};
@@ -13,10 +14,10 @@ ghost use Rattle.lines.specs.Report.{round_answer, round_line, report_opens, rep
 
 use answer::{Header, Opened, Refusal, Written};
 use buffer::LONGEST;
-use libc::STDIN_FILENO;
 use lines::LINE;
 use output::Sent;
 use soundness::LARGEST;
+use std::io::Read;
 
 // A line in the buffer, and whether another follows.
 #[derive(Clone, Copy)]
@@ -81,7 +82,14 @@ fn study_line(file: &[u8], h: Header, i: usize, tally: &mut [u32], out: &mut [u8
 }
 
 // The report on an open study, line after line up to the first write that fails.
-fn report_study(file: &[u8], h: Header, begun: Sent, tally: &mut [u32], out: &mut [u8]) -> Sent
+fn report_study(
+    rt: &impl Print,
+    file: &[u8],
+    h: Header,
+    begun: Sent,
+    tally: &mut [u32],
+    out: &mut [u8],
+) -> Sent
     requires line_room_in_bounds { (line_room ≤ length out.old) × (report_opens file.now ≡ success (header_values h)) × Due file.now (header_values h) 0 tally.old }
     requires begun { (begun.lines ≡ 0) × (begun.whole ≡ true) }
     ensures { SentOf (report_lines file.now) result.lines result.whole }
@@ -92,7 +100,7 @@ fn report_study(file: &[u8], h: Header, begun: Sent, tally: &mut [u32], out: &mu
         let i = sent.lines();
         let line = study_line(file, h, i, tally, out);
         let n = line.length;
-        sent = output::write_line(file, sent, &out[..n]);
+        sent = output::write_line(rt, file, sent, &out[..n]);
         more = line.more & sent.whole();
     }
     sent
@@ -112,34 +120,49 @@ fn open_input(file: &[u8]) -> Opened
 }
 
 // The report on a file that is refused: one line.
-fn report_refusal(file: &[u8], refusal: Refusal, begun: Sent) -> Sent
+fn report_refusal(rt: &impl Print, file: &[u8], refusal: Refusal, begun: Sent) -> Sent
     requires file_value { report_opens file.now ≡ refused (number_of refusal) }
     requires begun { (begun.lines ≡ 0) × (begun.whole ≡ true) }
     ensures { SentOf (report_lines file.now) result.lines result.whole }
 {
     let mut out = [0u8; LINE];
     let n = lines::refused_line(answer::number(refusal) as u64, &mut out);
-    output::write_line(file, begun, &out[..n])
+    output::write_line(rt, file, begun, &out[..n])
 }
 
 // The report on a file.
-fn report(file: &[u8]) -> Sent
+fn report(rt: &impl Print, file: &[u8]) -> Sent
     ensures { SentOf (report_lines file.now) result.lines result.whole }
 {
     let begun = output::none();
     match open_input(file) {
-        Opened::Refused(r) => report_refusal(file, r, begun),
+        Opened::Refused(r) => report_refusal(rt, file, r, begun),
         Opened::Study(h) => {
             let mut tally = [0u32; LARGEST];
             let mut out = [0u8; LINE];
             tally::new(h.n1 as u32, h.n2 as u32, &mut tally);
-            report_study(file, h, begun, &mut tally, &mut out)
+            report_study(rt, file, h, begun, &mut tally, &mut out)
         }
     }
 }
 
-fn main() {
+// Reads until the buffer is full, the input ends or a read fails, and tells how many bytes it has.
+fn read_full(input: &mut impl Read, space: &mut [u8]) -> usize
+    ensures { result ≤ length space.new }
+{
+    let mut done = 0;
+    while done < space.len() {
+        let n = input.read(&mut space[done..]).unwrap_or(0);
+        if n == 0 {
+            break;
+        }
+        done += n;
+    }
+    done
+}
+
+fn main(rt: HostRuntime) {
     let mut space = [0u8; MAX_INPUT + 1];
-    let n = io::read_full(STDIN_FILENO, &mut space);
-    report(&space[..n]);
+    let n = read_full(&mut rt.stdin(), &mut space);
+    report(&rt, &space[..n]);
 }

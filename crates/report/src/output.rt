@@ -5,8 +5,6 @@ ghost use Rattle.std.specs.Prelude.{◌≡◌, true, ◌+◌, ◌<◌, length};
 ghost use Rattle.laws.specs.Tests.{flag};
 ghost use Rattle.lines.specs.Report.{report_lines, line_at};
 
-use libc::STDOUT_FILENO;
-
 // How many lines of a report the system took, in order from line 0, and whether none failed.
 #[derive(Clone, Copy)]
 pub struct Sent {
@@ -40,11 +38,11 @@ pub fn none() -> Sent
 }
 
 // Writes the next line of the report on `file`, which is lent for what is asked of `line`.
-pub fn write_line(file: &[u8], sent: Sent, line: &[u8]) -> Sent
+pub fn write_line(rt: &impl Print, file: &[u8], sent: Sent, line: &[u8]) -> Sent
     requires { (sent.whole ≡ true) × (sent.lines < length (report_lines file.now)) × (line.now ≡ line_at file.now sent.lines) }
     ensures { result.lines ≡ sent.lines + flag result.whole }
 {
-    if io::write_all(STDOUT_FILENO, line) {
+    if rt.write_all(line).is_ok() {
         return Sent {
             lines: sent.lines + 1,
             whole: true,

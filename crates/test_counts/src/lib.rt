@@ -1,10 +1,11 @@
 // Answers of calls as numbers, and how often each number came, alone and with another that applied
 // too.
 #![tactic(auto)]
+
 ghost use Rattle.std.specs.Prelude.{◌≤◌};
 
 use answer::{Done, Opened, Written};
-use libc::STDOUT_FILENO;
+use std::io;
 use test_files::Judged;
 use test_support::field;
 
@@ -66,13 +67,13 @@ pub fn judged(counts: &mut [u64], call: usize, j: Judged, right: bool)
 
 // ---- output
 // Part of a line: a name and a number.
-pub fn say(name: &[u8], n: usize) {
-    io::write_all(STDOUT_FILENO, name);
-    io::print_decimal(STDOUT_FILENO, n as u64);
+pub fn say(rt: &impl Print, name: &[u8], n: usize) -> io::Result<()> {
+    rt.write_all(name)?;
+    print!(rt; "{n}")
 }
 
-pub fn end_line() {
-    io::write_all(STDOUT_FILENO, b"\n");
+pub fn end_line(rt: &impl Print) -> io::Result<()> {
+    rt.write_all(b"\n")
 }
 
 // The sum of the places of a first number.
@@ -89,22 +90,23 @@ fn all_of(counts: &[u64], at: usize) -> u64
 }
 
 // Each second number that came.
-fn with_others(counts: &[u64], at: usize)
+fn with_others(rt: &impl Print, counts: &[u64], at: usize) -> io::Result<()>
     requires { at ≤ 200000 }
 {
     let mut k: usize = 1;
     while k < NUMBERS {
         let n = counted(counts, at + k);
         if 0 < n {
-            say(b", with ", k);
-            say(b" ", n as usize);
+            say(rt, b", with ", k)?;
+            say(rt, b" ", n as usize)?;
         }
         k += 1;
     }
+    Ok(())
 }
 
 // A line for each number that came.
-fn numbers(counts: &[u64], call: usize)
+fn numbers(rt: &impl Print, counts: &[u64], call: usize) -> io::Result<()>
     requires { call ≤ 100000 }
 {
     let mut k: usize = 1;
@@ -112,23 +114,24 @@ fn numbers(counts: &[u64], call: usize)
         let at = call + NUMBERS * k;
         let n = all_of(counts, at);
         if 0 < n {
-            say(b"  refused ", k);
-            say(b" ", n as usize);
-            with_others(counts, at);
-            end_line();
+            say(rt, b"  refused ", k)?;
+            say(rt, b" ", n as usize)?;
+            with_others(rt, counts, at)?;
+            end_line(rt)?;
         }
         k += 1;
     }
+    Ok(())
 }
 
 // A call's name, its successes and its refusals; a number behind `with` is the next that applied.
-pub fn row(name: &[u8], counts: &[u64], call: usize)
+pub fn row(rt: &impl Print, name: &[u8], counts: &[u64], call: usize) -> io::Result<()>
     requires { call ≤ 100000 }
 {
-    io::write_all(STDOUT_FILENO, name);
-    say(b"  good ", counted(counts, call) as usize);
-    end_line();
-    numbers(counts, call);
+    rt.write_all(name)?;
+    say(rt, b"  good ", counted(counts, call) as usize)?;
+    end_line(rt)?;
+    numbers(rt, counts, call)
 }
 
 // ---- lists of cases

@@ -1,6 +1,7 @@
 // Document 01's E, exact: large numbers in words below 10^6, the lowest first. No code is shared
 // with the library.
 #![tactic(auto)]
+
 ghost use Rattle.std.specs.Prelude.{◌≤◌};
 
 use test_support::{byte, put, times, word};

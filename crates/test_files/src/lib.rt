@@ -1,6 +1,7 @@
 // A plain reading of the study file, document 01 and S-4 of document 02: all tests are made, and the
 // first that applies is the answer.
 #![tactic(auto)]
+
 ghost use Rattle.std.specs.Prelude.{◌≡◌, ◌+◌, ◌≤◌, ◌<◌, length};
 
 use test_support::{byte, poke};

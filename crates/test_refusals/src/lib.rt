@@ -12,10 +12,11 @@
 //   148 the first record, 157 the second, 162 the tally, its score 165 and its cells from 166 on: no
 //   cell above 0, but for remove and score
 #![tactic(auto)]
-ghost use Rattle.std.specs.Prelude.{◌+◌, ◌≤◌, ◌<◌};
+
+ghost use Rattle.std.specs.Prelude.{◌+◌, ◌≤◌, ◌<◌, IfOk};
 
 use answer::{Aged, Done, Opened, Rated, Scored, Written};
-use libc::STDOUT_FILENO;
+use std::io;
 use test_support::{byte, equal, field, fields, flag, part, poke, put, word};
 
 // The answer of a refusal that changed something.
@@ -581,40 +582,40 @@ fn try_reliability(seen: &mut [u8]) -> u64
 }
 
 // ---- output
-fn show_number(k: u64) {
-    io::write_all(STDOUT_FILENO, b" ");
-    io::print_decimal(STDOUT_FILENO, k);
+fn show_number(rt: &impl Print, k: u64) -> io::Result<()> {
+    rt.write_all(b" ")?;
+    print!(rt; "{k}")
 }
 
 // A line: the call's name and the numbers that it refused with.
-fn show(name: &[u8], call: usize, seen: &[u8])
+fn show(rt: &impl Print, name: &[u8], call: usize, seen: &[u8]) -> io::Result<()>
     requires { call ≤ 12 }
 {
-    io::write_all(STDOUT_FILENO, name);
+    rt.write_all(name)?;
     let mut k: usize = 1;
     while k < 40 {
         if byte(seen, 40 * call + k) == 1 {
-            show_number(k as u64);
+            show_number(rt, k as u64)?;
         }
         k += 1;
     }
-    io::write_all(STDOUT_FILENO, b"\n");
+    rt.write_all(b"\n")
 }
 
-fn show_all(seen: &[u8]) {
-    show(b"writer refused", 0, seen);
-    show(b"opening refused", 1, seen);
-    show(b"lookup refused", 2, seen);
-    show(b"search refused", 3, seen);
-    show(b"series refused", 4, seen);
-    show(b"parallel refused", 5, seen);
-    show(b"new refused", 6, seen);
-    show(b"add refused", 7, seen);
-    show(b"ageing refused", 8, seen);
-    show(b"weights refused", 9, seen);
-    show(b"reliability refused", 10, seen);
-    show(b"remove refused", 11, seen);
-    show(b"score refused", 12, seen);
+fn show_all(rt: &impl Print, seen: &[u8]) -> io::Result<()> {
+    show(rt, b"writer refused", 0, seen)?;
+    show(rt, b"opening refused", 1, seen)?;
+    show(rt, b"lookup refused", 2, seen)?;
+    show(rt, b"search refused", 3, seen)?;
+    show(rt, b"series refused", 4, seen)?;
+    show(rt, b"parallel refused", 5, seen)?;
+    show(rt, b"new refused", 6, seen)?;
+    show(rt, b"add refused", 7, seen)?;
+    show(rt, b"ageing refused", 8, seen)?;
+    show(rt, b"weights refused", 9, seen)?;
+    show(rt, b"reliability refused", 10, seen)?;
+    show(rt, b"remove refused", 11, seen)?;
+    show(rt, b"score refused", 12, seen)
 }
 
 // The calls on studies and records.
@@ -635,11 +636,11 @@ fn try_tallies(seen: &mut [u8]) -> u64
 }
 
 // Tries all, prints what was refused, and tells how many answers were wrong.
-pub fn try_refusals() -> u64
-    ensures { result ≤ 20000 }
+pub fn try_refusals(rt: &impl Print) -> io::Result<u64>
+    ensures { IfOk result (λ wrong. wrong ≤ 20000) }
 {
     let mut seen = [0u8; 520];
     let wrong = try_fronts(&mut seen) + try_tallies(&mut seen);
-    show_all(&seen);
-    wrong
+    show_all(rt, &seen)?;
+    Ok(wrong)
 }

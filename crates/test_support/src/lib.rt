@@ -1,9 +1,10 @@
 // What the test programs share: numbers from a seed, bytes and words read and stored without a
 // thought for ends, comparison, where a record holds, and lines of output.
 #![tactic(auto)]
+
 ghost use Rattle.std.specs.Prelude.{◌≤◌, ◌<◌};
 
-use libc::STDOUT_FILENO;
+use std::io;
 
 fn next(x: u64) -> u64
     ensures { result < 2147483648 }
@@ -161,8 +162,7 @@ pub fn field(text: &[u8], k: u64) -> u64 {
 
 // ---- output
 // A line: a name and a number.
-pub fn line(name: &[u8], n: u64) {
-    io::write_all(STDOUT_FILENO, name);
-    io::print_decimal(STDOUT_FILENO, n);
-    io::write_all(STDOUT_FILENO, b"\n");
+pub fn line(rt: &impl Print, name: &[u8], n: u64) -> io::Result<()> {
+    rt.write_all(name)?;
+    println!(rt; "{n}")
 }

@@ -3,6 +3,7 @@
 // studies against removal testing on the old ones. Nothing in a file tells its form: opening reads
 // the old files as new ones, and the converter new files as old ones.
 #![tactic(auto)]
+
 mod edges;
 mod fronts;
 mod made;
@@ -10,7 +11,7 @@ mod made;
 ghost use Rattle.std.specs.Prelude.{◌≤◌, length};
 
 use answer::Opened;
-use libc::STDOUT_FILENO;
+use std::io;
 use test_counts::{PER_CALL, WRONG, count, counted, judged, opened, row, written};
 use test_studies::some;
 use test_support::{equal, line};
@@ -131,25 +132,26 @@ fn run(counts: &mut [u64]) {
 }
 
 // ---- output
-fn show(counts: &[u64]) {
-    row(b"converter, old files\n", counts, CONVERTER);
-    row(b"converter, new files\n", counts, NEW_FILES);
+fn show(rt: &impl Print, counts: &[u64]) -> io::Result<()> {
+    row(rt, b"converter, old files\n", counts, CONVERTER)?;
+    row(rt, b"converter, new files\n", counts, NEW_FILES)?;
     line(
+        rt,
         b"converter, slices exactly long enough ",
         counted(counts, EXACT),
-    );
-    line(b"converter, longer slices ", counted(counts, ROOMY));
-    row(b"opening, old files\n", counts, OPENING);
-    line(b"fronts compared ", counted(counts, FRONTS));
-    line(b"pairs listed ", counted(counts, PAIRS));
-    io::write_all(STDOUT_FILENO, b"limits of the converter, 0 for a success\n");
+    )?;
+    line(rt, b"converter, longer slices ", counted(counts, ROOMY))?;
+    row(rt, b"opening, old files\n", counts, OPENING)?;
+    line(rt, b"fronts compared ", counted(counts, FRONTS))?;
+    line(rt, b"pairs listed ", counted(counts, PAIRS))?;
+    rt.write_all(b"limits of the converter, 0 for a success\n")
 }
 
-fn main() {
+fn main(rt: HostRuntime) -> io::Result<()> {
     let mut counts = [0u64; COUNTS];
     run(&mut counts);
     fronts::try_fronts(&mut counts);
-    show(&counts);
-    edges::try_limits(&mut counts);
-    line(b"wrong ", counted(&counts, WRONG));
+    show(&rt, &counts)?;
+    edges::try_limits(&rt, &mut counts)?;
+    line(&rt, b"wrong ", counted(&counts, WRONG))
 }

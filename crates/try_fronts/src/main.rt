@@ -1,11 +1,12 @@
 // Runs series and parallel on generated records, good and damaged, and compares every answer and
 // every byte with a plain check, cell by cell, that shares no code with the library.
 #![tactic(auto)]
+
 mod cases;
 mod plain;
 
 use answer::Written;
-use libc::STDOUT_FILENO;
+use std::io;
 use test_support::line;
 
 // What a run has seen.
@@ -123,18 +124,18 @@ fn run(kind: u8) -> Counts {
     c
 }
 
-fn report(c: Counts) {
-    line(b"  calls ", c.tried);
-    line(b"  written ", c.written);
-    line(b"  refused 12 ", c.refused12);
-    line(b"  refused 13 ", c.refused13);
-    line(b"  refused 15 ", c.refused15);
-    line(b"  wrong ", c.wrong);
+fn report(rt: &impl Print, c: Counts) -> io::Result<()> {
+    line(rt, b"  calls ", c.tried)?;
+    line(rt, b"  written ", c.written)?;
+    line(rt, b"  refused 12 ", c.refused12)?;
+    line(rt, b"  refused 13 ", c.refused13)?;
+    line(rt, b"  refused 15 ", c.refused15)?;
+    line(rt, b"  wrong ", c.wrong)
 }
 
-fn main() {
-    io::write_all(STDOUT_FILENO, b"series\n");
-    report(run(0));
-    io::write_all(STDOUT_FILENO, b"parallel\n");
-    report(run(1));
+fn main(rt: HostRuntime) -> io::Result<()> {
+    rt.write_all(b"series\n")?;
+    report(&rt, run(0))?;
+    rt.write_all(b"parallel\n")?;
+    report(&rt, run(1))
 }

@@ -2,11 +2,13 @@
 // opening, searches and plans, every front at every (a, b) and the small ones against all routes,
 // tallies, and reliability by exact arithmetic. Then every refusal of every call.
 #![tactic(auto)]
+
 mod features;
 
 ghost use Rattle.std.specs.Prelude.{◌≤◌, ◌<◌, length};
 
 use answer::Opened;
+use std::io;
 use test_networks::Shape;
 use test_plans::slots;
 use test_plans::slots::{copy, judge, length_of, tick};
@@ -301,69 +303,80 @@ fn count(counts: &[u64], at: usize) -> u64 {
     if at < counts.len() { counts[at] } else { 0 }
 }
 
-fn show_arcs(counts: &[u64]) {
-    line(b"  all arcs of kind 0 ", count(counts, slots::KIND_0));
-    line(b"  arcs alone fail ", count(counts, slots::ARCS_ALONE));
+fn show_arcs(rt: &impl Print, counts: &[u64]) -> io::Result<()> {
+    line(rt, b"  all arcs of kind 0 ", count(counts, slots::KIND_0))?;
+    line(rt, b"  arcs alone fail ", count(counts, slots::ARCS_ALONE))?;
     line(
+        rt,
         b"  an end and an arc of one class ",
         count(counts, slots::END_AND_ARC),
-    );
+    )?;
     line(
+        rt,
         b"  parallel arcs of differing kinds ",
         count(counts, slots::PARALLEL),
-    );
+    )?;
     line(
+        rt,
         b"  an arc that routes use each way ",
         count(counts, slots::EACH_WAY),
-    );
+    )?;
     line(
+        rt,
         b"  a class of 64, nodes and arcs ",
         count(counts, slots::BOTH_SORTS),
-    );
-    line(b"arcs of kind 0 ", count(counts, slots::KINDS));
-    line(b"arcs of kind 1 ", count(counts, slots::KINDS + 1));
-    line(b"arcs of kind 2 ", count(counts, slots::KINDS + 2));
-    line(b"arcs of kind 3 ", count(counts, slots::KINDS + 3));
-    line(b"arcs of kind 4 ", count(counts, slots::KINDS + 4));
-    line(b"arcs of kind 5 ", count(counts, slots::KINDS + 5));
+    )?;
+    line(rt, b"arcs of kind 0 ", count(counts, slots::KINDS))?;
+    line(rt, b"arcs of kind 1 ", count(counts, slots::KINDS + 1))?;
+    line(rt, b"arcs of kind 2 ", count(counts, slots::KINDS + 2))?;
+    line(rt, b"arcs of kind 3 ", count(counts, slots::KINDS + 3))?;
+    line(rt, b"arcs of kind 4 ", count(counts, slots::KINDS + 4))?;
+    line(rt, b"arcs of kind 5 ", count(counts, slots::KINDS + 5))
 }
 
-fn show(counts: &[u64]) {
-    line(b"studies opened ", count(counts, slots::OPENED));
-    line(b"  ends of class 0 ", count(counts, slots::NEITHER));
-    line(b"  one end fails ", count(counts, slots::ONE_END));
+fn show(rt: &impl Print, counts: &[u64]) -> io::Result<()> {
+    line(rt, b"studies opened ", count(counts, slots::OPENED))?;
+    line(rt, b"  ends of class 0 ", count(counts, slots::NEITHER))?;
+    line(rt, b"  one end fails ", count(counts, slots::ONE_END))?;
     line(
+        rt,
         b"  both ends of one class ",
         count(counts, slots::ONE_CLASS),
-    );
+    )?;
     line(
+        rt,
         b"  ends of classes 1 and 2 ",
         count(counts, slots::BOTH_CLASSES),
-    );
-    line(b"  an end alone in its class ", count(counts, slots::ALONE));
-    show_arcs(counts);
-    line(b"rounds searched ", count(counts, slots::SEARCHED));
-    line(b"pairs listed ", count(counts, slots::PAIRS));
+    )?;
     line(
+        rt,
+        b"  an end alone in its class ",
+        count(counts, slots::ALONE),
+    )?;
+    show_arcs(rt, counts)?;
+    line(rt, b"rounds searched ", count(counts, slots::SEARCHED))?;
+    line(rt, b"pairs listed ", count(counts, slots::PAIRS))?;
+    line(
+        rt,
         b"rounds compared with all routes ",
         count(counts, slots::ROUTES),
-    );
-    line(b"plans ", count(counts, slots::PLANS));
-    line(b"tallies ", count(counts, slots::TALLIES));
-    line(b"cells compared ", count(counts, slots::CELLS));
-    line(b"rates compared exactly ", count(counts, slots::RATES));
-    line(b"ages ", count(counts, slots::AGES));
-    line(b"wrong ", count(counts, slots::WRONG));
+    )?;
+    line(rt, b"plans ", count(counts, slots::PLANS))?;
+    line(rt, b"tallies ", count(counts, slots::TALLIES))?;
+    line(rt, b"cells compared ", count(counts, slots::CELLS))?;
+    line(rt, b"rates compared exactly ", count(counts, slots::RATES))?;
+    line(rt, b"ages ", count(counts, slots::AGES))?;
+    line(rt, b"wrong ", count(counts, slots::WRONG))
 }
 
-fn main() {
+fn main(rt: HostRuntime) -> io::Result<()> {
     let mut counts = [0u64; slots::COUNTS];
     try_networks(&mut counts);
     tick(&mut counts, slots::AGES, test_survival::AGES);
     tick(
         &mut counts,
         slots::WRONG,
-        test_survival::wrong_ages() + test_refusals::try_refusals(),
+        test_survival::wrong_ages() + test_refusals::try_refusals(&rt)?,
     );
-    show(&counts);
+    show(&rt, &counts)
 }

@@ -5,7 +5,7 @@
 ghost use Rattle.std.specs.Prelude.{◌≤◌, ◌<◌};
 
 use answer::{Done, Scored};
-use libc::STDOUT_FILENO;
+use std::io;
 use test_support::{byte, equal, flag, line, part, pick, poke, put, word};
 use test_tallies::{
     DOWN, HEAD, PAST, SCORE, Sizes, UP, begins, cell_sum, cells, copy, junk, record_of,
@@ -66,27 +66,35 @@ fn shown(counts: &[u64], k: u64) -> u64 {
     if i < counts.len() { counts[i] } else { 0 }
 }
 
-fn show_if(name: &[u8], counts: &[u64], base: u64, k: u64)
+fn show_if(rt: &impl Print, name: &[u8], counts: &[u64], base: u64, k: u64) -> io::Result<()>
     requires { (base ≤ 200) × (k ≤ 100) }
 {
     let n = shown(counts, base + k);
     if n == 0 {
-        return;
+        return Ok(());
     }
-    io::write_all(STDOUT_FILENO, name);
-    io::print_decimal(STDOUT_FILENO, k);
-    line(b": ", n);
+    rt.write_all(name)?;
+    print!(rt; "{k}")?;
+    line(rt, b": ", n)
 }
 
-fn show(title: &[u8], name: &[u8], counts: &[u64], base: u64, end: u64)
+fn show(
+    rt: &impl Print,
+    title: &[u8],
+    name: &[u8],
+    counts: &[u64],
+    base: u64,
+    end: u64,
+) -> io::Result<()>
     requires { (base ≤ 200) × (end ≤ 40) }
 {
-    io::write_all(STDOUT_FILENO, title);
+    rt.write_all(title)?;
     let mut k: u64 = 0;
     while k < end {
-        show_if(name, counts, base, k);
+        show_if(rt, name, counts, base, k)?;
         k += 1;
     }
+    Ok(())
 }
 
 // ---- one call
@@ -539,92 +547,103 @@ fn levels(counts: &mut [u64]) {
     try_level(100000, counts);
 }
 
-fn show_moves(counts: &[u64]) {
-    show(b"adds\n", b"  number ", counts, ADDS, 32);
+fn show_moves(rt: &impl Print, counts: &[u64]) -> io::Result<()> {
+    show(rt, b"adds\n", b"  number ", counts, ADDS, 32)?;
     show(
+        rt,
         b"adds that answered 22, by fault: 1 the score alone, 2 not the score, 3 a score right only modulo 2^32, 0 both\n",
         b"  fault ",
         counts,
         FAULTS,
         4,
-    );
-    show(b"removes\n", b"  number ", counts, REMOVES, 32);
+    )?;
+    show(rt, b"removes\n", b"  number ", counts, REMOVES, 32)?;
     show(
+        rt,
         b"removes that answered 22, by fault\n",
         b"  fault ",
         counts,
         FAULTS + 4,
         4,
-    );
+    )
 }
 
-fn show_causes(counts: &[u64]) {
+fn show_causes(rt: &impl Print, counts: &[u64]) -> io::Result<()> {
     show(
+        rt,
         b"removes that answered 31, by cause: 1 M, 2 a cell, 4 the outcome, or their sum\n",
         b"  cause ",
         counts,
         CAUSES,
         8,
-    );
+    )?;
     show(
+        rt,
         b"removes that answered 22, by cause of 31\n",
         b"  cause ",
         counts,
         UNSOUND,
         8,
-    );
+    )?;
     show(
+        rt,
         b"removes that answered 23, by cause of 31\n",
         b"  cause ",
         counts,
         SIZES,
         8,
-    );
+    )
 }
 
-fn show_scores(counts: &[u64]) {
+fn show_scores(rt: &impl Print, counts: &[u64]) -> io::Result<()> {
     show(
+        rt,
         b"scores after a step, by the tally: 0 sound, 1 not, 2 cells do not fit, 3 a size above 64, 4 under four words: 21\n",
         b"  tally ",
         counts,
         SCORES,
         5,
-    );
+    )?;
     show(
+        rt,
         b"scores of the first words: 21 under four\n",
         b"  words ",
         counts,
         HEADS,
         5,
-    );
+    )
 }
 
-fn show_rest(counts: &[u64]) {
+fn show_rest(rt: &impl Print, counts: &[u64]) -> io::Result<()> {
     line(
+        rt,
         b"scores that are the sum of all cells, where nothing but calls changed the tally ",
         shown(counts, OWN),
-    );
+    )?;
     line(
+        rt,
         b"legal lists whose words are those of the adds that remain ",
         shown(counts, REMAINED),
-    );
+    )?;
     line(
+        rt,
         b"removes added back that restored the words ",
         shown(counts, RESTORED),
-    );
+    )?;
     line(
+        rt,
         b"removes of a front that was not added, on tallies that nothing but calls changed ",
         shown(counts, STRANGERS),
-    );
-    line(b"wrong ", shown(counts, WRONG));
+    )?;
+    line(rt, b"wrong ", shown(counts, WRONG))
 }
 
-fn main() {
+fn main(rt: HostRuntime) -> io::Result<()> {
     let mut counts = [0u64; 111];
     lists(&mut counts);
     levels(&mut counts);
-    show_moves(&counts);
-    show_causes(&counts);
-    show_scores(&counts);
-    show_rest(&counts);
+    show_moves(&rt, &counts)?;
+    show_causes(&rt, &counts)?;
+    show_scores(&rt, &counts)?;
+    show_rest(&rt, &counts)
 }

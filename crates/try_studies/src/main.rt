@@ -2,12 +2,13 @@
 // answer and every byte with a plain reading of the study file that shares no code with the library.
 // Then each limit from both sides.
 #![tactic(auto)]
+
 mod edges;
 
 ghost use Rattle.std.specs.Prelude.{◌≤◌, length};
 
 use answer::{Header, Opened};
-use libc::STDOUT_FILENO;
+use std::io;
 use test_counts::{PER_CALL, WRONG, count, counted, done, judged, opened, row, written};
 use test_files::Numbers;
 use test_support::{equal, line};
@@ -202,24 +203,24 @@ fn run(counts: &mut [u64]) {
 }
 
 // ---- output
-fn sorts(name: &[u8], counts: &[u64], at: usize)
+fn sorts(rt: &impl Print, name: &[u8], counts: &[u64], at: usize) -> io::Result<()>
     requires { at ≤ 100000 }
 {
-    io::write_all(STDOUT_FILENO, name);
-    line(b"  of nodes alone ", counted(counts, at));
-    line(b"  of arcs alone ", counted(counts, at + 1));
-    line(b"  of nodes and arcs ", counted(counts, at + 2));
+    rt.write_all(name)?;
+    line(rt, b"  of nodes alone ", counted(counts, at))?;
+    line(rt, b"  of arcs alone ", counted(counts, at + 1))?;
+    line(rt, b"  of nodes and arcs ", counted(counts, at + 2))
 }
 
-fn main() {
+fn main(rt: HostRuntime) -> io::Result<()> {
     let mut counts = [0u64; COUNTS];
     run(&mut counts);
-    sorts(b"classes of 64 members\n", &counts, CLASSES);
-    sorts(b"classes of 65 members\n", &counts, CLASSES + 3);
-    row(b"writer\n", &counts, WRITER);
-    row(b"opening\n", &counts, OPENING);
-    row(b"lookup, check and part\n", &counts, LOOKUP);
-    io::write_all(STDOUT_FILENO, b"limits, 0 for a success\n");
-    edges::try_limits(&mut counts);
-    line(b"wrong ", counted(&counts, WRONG));
+    sorts(&rt, b"classes of 64 members\n", &counts, CLASSES)?;
+    sorts(&rt, b"classes of 65 members\n", &counts, CLASSES + 3)?;
+    row(&rt, b"writer\n", &counts, WRITER)?;
+    row(&rt, b"opening\n", &counts, OPENING)?;
+    row(&rt, b"lookup, check and part\n", &counts, LOOKUP)?;
+    rt.write_all(b"limits, 0 for a success\n")?;
+    edges::try_limits(&rt, &mut counts)?;
+    line(&rt, b"wrong ", counted(&counts, WRONG))
 }

@@ -5,7 +5,7 @@
 ghost use Rattle.std.specs.Prelude.{◌≤◌, ◌<◌, length};
 
 use answer::{Aged, Done, Rate, Rated};
-use libc::STDOUT_FILENO;
+use std::io;
 use test_support::{line, pick, poke, put, word};
 use test_tallies::{DOWN, HEAD, PAST, SCORE, Sizes, UP, copy, junk, record_of};
 
@@ -57,45 +57,45 @@ fn shown(counts: &[u64], at: u64) -> u64 {
     if k < counts.len() { counts[k] } else { 0 }
 }
 
-fn label(k: u64) {
+fn label(rt: &impl Print, k: u64) -> io::Result<()> {
     if k == 0 {
-        io::write_all(STDOUT_FILENO, b"  good");
-        return;
+        return rt.write_all(b"  good");
     }
-    io::write_all(STDOUT_FILENO, b"  refused ");
-    io::print_decimal(STDOUT_FILENO, k);
+    rt.write_all(b"  refused ")?;
+    print!(rt; "{k}")
 }
 
-fn show_faults(counts: &[u64], base: u64)
+fn show_faults(rt: &impl Print, counts: &[u64], base: u64) -> io::Result<()>
     requires { base ≤ 1000 }
 {
     if shown(counts, base + 22) == 0 {
-        return;
+        return Ok(());
     }
     let at = base + FAULTS;
-    line(b"  22 by the score alone ", shown(counts, at + 1));
-    line(b"  22 with the score right ", shown(counts, at + 2));
+    line(rt, b"  22 by the score alone ", shown(counts, at + 1))?;
+    line(rt, b"  22 with the score right ", shown(counts, at + 2))?;
     line(
+        rt,
         b"  22 with the score right only modulo 2^32 ",
         shown(counts, at + 3),
-    );
+    )
 }
 
-fn show(title: &[u8], counts: &[u64], base: u64)
+fn show(rt: &impl Print, title: &[u8], counts: &[u64], base: u64) -> io::Result<()>
     requires { base ≤ 1000 }
 {
-    io::write_all(STDOUT_FILENO, title);
+    rt.write_all(title)?;
     let mut k: u64 = 0;
     while k < 26 {
         let n = shown(counts, base + k);
         if n != 0 {
-            label(k);
-            line(b" ", n);
+            label(rt, k)?;
+            line(rt, b" ", n)?;
         }
         k += 1;
     }
-    show_faults(counts, base);
-    line(b"  wrong ", shown(counts, base + 26));
+    show_faults(rt, counts, base)?;
+    line(rt, b"  wrong ", shown(counts, base + 26))
 }
 
 // ---- slices of words
@@ -342,26 +342,26 @@ fn try_weights(seed: u64, counts: &mut [u64]) {
 
 // ---- ageing
 // The answer is shown: `stdout` has each chance as a figure, so that no formula is tried by itself.
-fn show_age(age: u64) {
-    io::write_all(STDOUT_FILENO, b"  ");
-    io::print_decimal(STDOUT_FILENO, age);
+fn show_age(rt: &impl Print, age: u64) -> io::Result<()> {
+    rt.write_all(b"  ")?;
+    print!(rt; "{age}")?;
     match weights::ageing(age) {
-        Aged::Chance(p) => line(b" ", p as u64),
-        Aged::Refused(r) => line(b" refused ", answer::number(r) as u64),
+        Aged::Chance(p) => line(rt, b" ", p as u64),
+        Aged::Refused(r) => line(rt, b" refused ", answer::number(r) as u64),
     }
 }
 
 // Ages 0 to 39; then those that are 0 and 30 in 32 bits, one whose square is 0 in 64, and the largest.
-fn show_ages() {
+fn show_ages(rt: &impl Print) -> io::Result<()> {
     let mut y: u64 = 0;
     while y < 40 {
-        show_age(y);
+        show_age(rt, y)?;
         y += 1;
     }
-    show_age(4294967296);
-    show_age(4294967326);
-    show_age(9223372036854775808);
-    show_age(18446744073709551615);
+    show_age(rt, 4294967296)?;
+    show_age(rt, 4294967326)?;
+    show_age(rt, 9223372036854775808)?;
+    show_age(rt, 18446744073709551615)
 }
 
 // ---- a tally: new, adds, reliability, and the same after a word is damaged
@@ -533,15 +533,15 @@ fn levels(counts: &mut [u64]) {
     try_level(100000, counts);
 }
 
-fn main() {
+fn main(rt: HostRuntime) -> io::Result<()> {
     let mut counts = [0u64; 128];
     tallies(&mut counts);
     heads(&mut counts);
     levels(&mut counts);
-    show(b"new\n", &counts, NEW);
-    show(b"add\n", &counts, ADD);
-    show(b"reliability\n", &counts, RELIABILITY);
-    show(b"weights\n", &counts, WEIGHTS);
-    io::write_all(STDOUT_FILENO, b"ageing\n");
-    show_ages();
+    show(&rt, b"new\n", &counts, NEW)?;
+    show(&rt, b"add\n", &counts, ADD)?;
+    show(&rt, b"reliability\n", &counts, RELIABILITY)?;
+    show(&rt, b"weights\n", &counts, WEIGHTS)?;
+    rt.write_all(b"ageing\n")?;
+    show_ages(&rt)
 }

@@ -1,5 +1,6 @@
 -- `relax::mark_at` is the level where it waits, else 0.
 use mathlib.Core.Path.{sym, ◌∙◌}
+use borrow.Author.Rules.{rules}
 use Rattle.relax.proofs.mark_at.Goals as goal
 
 pub returns-then-at_least : goal.returns-then-at_least

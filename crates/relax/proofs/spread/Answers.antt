@@ -4,9 +4,10 @@ use Prim.Native.Nat.{◌+◌, ◌-◌, ◌*◌, ◌/◌, ◌≤◌, ◌<◌}
 use native.Mathlib.Omega.{arith}
 use lib.ListN.{length, get_or}
 use borrow.Author.Tests.{leb-true, leb-false}
+use borrow.Author.Rules.{rules}
 use Rattle.chains.specs.Steps.{max_links}
 use Rattle.relax.specs.Steps.{Graph, Ready}
-use Rattle.relax.proofs.Spreads.{Turn, place, at-node, start_is, falls, node_in, mark-in, passed, again, space, grown-one, idle}
+use Rattle.relax.proofs.Spreads.{Spreading, Turn, place, at-node, start_is, falls, node_in, mark-in, passed, again, space, grown-one, idle}
 use Rattle.relax.proofs.spread.Goals as goal
 
 pub offset_bounds-links-wide_two : goal.offset_bounds-links-wide_two

@@ -1,9 +1,10 @@
 -- `sweep::next_in` goes down from z: no node of a later place has a label above `last`.
 use mathlib.Core.Logic.{⊎_elim}
 use mathlib.Core.Path.{subst, ◌≡◌, sym, ap, ◌∙◌}
-use Prim.Native.Nat.{◌-◌, ◌≤◌, ◌<◌}
+use Prim.Native.Nat.{ℕ, ◌-◌, ◌≤◌, ◌<◌}
 use native.Mathlib.Omega.{arith}
 use lib.ListN.{get_or}
+use borrow.Author.Rules.{rules}
 use borrow.Author.Tests.{ltb-true, ltb-false}
 use Rattle.laws.specs.Tests.{order as sides}
 use Rattle.sweep.proofs.next_in.Goals as goal

@@ -4,6 +4,8 @@ use mathlib.Core.List.{◌∷◌}
 use Prim.Native.Nat.{◌+◌, ◌-◌, ◌/◌}
 use native.Mathlib.Omega.{arith}
 use lib.ListN.{length, get_or, replicate, length-set}
+use borrow.Author.Rules.{rules}
+use Rattle.limits.specs.Limits.{max_position}
 use Rattle.record.specs.Record.{longest}
 use Rattle.relax.specs.Steps.{Graph, Settled}
 use Rattle.sweep.specs.Steps.{Sweepable}
@@ -20,11 +22,10 @@ pub loop-begin-init : goal.loop-begin-init
 loop-begin-init c = let b = c.args.begin in
     let caps = c.args.capacities.now in
     let t = c.wide_two-t.result in
-    let e = c.wide_two-t.ensures in
-    let empty = c.empty-found.ensures in (
+    (
       λ f p.
-          begins-at p.laid p.lent p.by_order p.within (empty ∙ ap₂ (λ a b. a ∷ b ∷ replicate (longest - 2) 0) p.sizes.0 p.sizes.1) c.requires.blank
-          b.x.0 p.begins p.some b.node t (get_or caps (length caps / 2 + t) 0) p.enters e refl,
+          begins-at p.laid p.lent p.by_order p.within (c.empty-found.ensures ∙ ap₂ (λ a b. a ∷ b ∷ replicate (longest - 2) 0) p.sizes.0 p.sizes.1) c.requires.blank
+          b.x.0 p.begins p.some b.node t (get_or caps (length caps / 2 + t) 0) p.enters c.wide_two-t.ensures refl,
       refl,
       refl,
       refl,
@@ -125,12 +126,13 @@ loop-begin-preserved c =
     → let a = c.args in
     Sweepable f a.capacities.now a.links.now a.order.now a.n2 a.begin → Settled f (c.loop-begin.x.0 - 1) c.flood.new.label c.flood.new.wait = λ f s. (let l = c.loop-begin in
     (rw (c.step_to-at.ensures, c.wide_two.ensures) at c.flood.ensures.settled) f (floodable c.args.begin l.x.0 l.node l.last.0 (l.invariant.0 f s) s.source)) in
-    let i = c.loop-begin.invariant in (
+    let i = c.loop-begin.invariant in
+    let k = c.flood.ensures.long in (
       λ f p.
           let st = settled f p in
           let is = label_is f p in
-          rw c.wide-place.ensures.0 (onward (i.0 f p) st _ is (collected (i.0 f p) st _ is c.collect.ensures.long c.collect.ensures.same c.collect.ensures.more) c.next_in-x.ensures (omega arith) c.flood.ensures.long),
-      omega (arith, i.1, c.flood.ensures.long.labels),
-      omega (arith, i.2, c.flood.ensures.long.pile),
-      omega (arith, i.3, c.flood.ensures.long.levels),
+          rw c.wide-place.ensures.0 (onward (i.0 f p) st _ is (collected (i.0 f p) st _ is c.collect.ensures.long c.collect.ensures.same c.collect.ensures.more) c.next_in-x.ensures (omega arith) k),
+      omega (arith, i.1, k.labels),
+      omega (arith, i.2, k.pile),
+      omega (arith, i.3, k.levels),
     )
