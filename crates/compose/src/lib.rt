@@ -3,6 +3,7 @@
 // Each merges its two records in one pass, pair by pair, into a local buffer, and only then looks
 // at the output slice: a refusal has written nothing.
 #![tactic(auto)]
+
 ghost use Rattle.std.specs.Prelude.{◌≡◌, [], ◌∷◌, length};
 ghost use Rattle.answer.specs.Outcome.{written, done, outcome};
 ghost use Rattle.buffer.specs.Steps.{record_in};

@@ -1,7 +1,6 @@
 -- `compose::joinable` tests in the order of the definition.
 use mathlib.Core.Path.{◌≡◌, sym, ap₂, ◌∙◌}
 use mathlib.Core.Bool.{not, ◌&&◌}
-use borrow.Author.Rules.{rules}
 use lib.Dec.{eqb}
 use Rattle.record.specs.Record.{is_record}
 use Rattle.compose.specs.Compose.{same_sizes}

@@ -1,13 +1,9 @@
 -- `compose::merge_parallel`: the buffer has collected all pairs but those that are left (`Merging either max`).
-use mathlib.Core.Path.{◌≡◌, sym, ◌∙◌}
+use mathlib.Core.Path.{◌≡◌}
 use Prim.Native.Nat.{max, ◌+◌, ◌-◌, ◌≤◌}
-use native.Mathlib.Omega.{arith}
-use borrow.Author.Tests.{leb-true, leb-false}
-use borrow.Author.Rules.{rules}
 use lib.ListN.{length}
 use Rattle.record.specs.Record.{record_size1, record_size2, listed}
-use Rattle.record.proofs.Bytes.{pair-at}
-use Rattle.compose.proofs.Merges.{either, Merging, merging-none, left-puttable, right-puttable, parallel-left, parallel-right, parallel-done, pair_is, count-is}
+use Rattle.compose.proofs.Merges.{either, Merging}
 use Rattle.compose.proofs.merge_parallel.Given as goal
 
 abbrev pub invariant-loop-i : goal.invariant-loop-i

@@ -1,16 +1,10 @@
 -- `compose::merge_series`: the buffer has collected all minima but those of the pairs that are left (`Merging both min`).
-use mathlib.Core.Path.{◌≡◌, sym, ◌∙◌}
-use mathlib.Core.Logic.{inl, inr}
+use mathlib.Core.Path.{◌≡◌}
 use Prim.Native.Nat.{min, ◌+◌, ◌-◌, ◌≤◌}
-use native.Mathlib.Nat.{le_of_lt}
-use native.Mathlib.Omega.{arith}
-use borrow.Author.Tests.{leb-true, leb-false}
-use borrow.Author.Rules.{rules}
 use lib.ListN.{length}
 use Rattle.limits.specs.Limits.{max_class}
 use Rattle.record.specs.Record.{record_size1, record_size2, listed}
-use Rattle.record.proofs.Bytes.{pair-at}
-use Rattle.compose.proofs.Merges.{both, Merging, merging-none, series-puttable, series-left, series-right, series-done, pair_is, count-is}
+use Rattle.compose.proofs.Merges.{both, Merging}
 use Rattle.compose.proofs.merge_series.Given as goal
 
 abbrev pub invariant-loop-i : goal.invariant-loop-i

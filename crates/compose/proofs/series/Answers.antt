@@ -1,7 +1,6 @@
 -- `compose::series` passes on a refusal of the records, and otherwise delivers the merged record.
 use mathlib.Core.Path.{◌≡◌, sym, ap, ◌∙◌}
 use mathlib.Core.List.{[], ◌∷◌}
-use borrow.Author.Rules.{rules}
 use Rattle.answer.specs.Outcome.{success, outcome, done}
 use Rattle.answer.proofs.Fills.{fill-refused, fill-delivered}
 use Rattle.compose.specs.Compose.{record_tests, series_bytes}
@@ -9,7 +8,7 @@ use Rattle.compose.proofs.Answers.{joined-joinable}
 use Rattle.compose.proofs.series.Goals as goal
 
 pub returns-in-Refused : goal.returns-in-Refused
-returns-in-Refused c = 
+returns-in-Refused c =
     let x = c.args.left.now in
     let y = c.args.right.now in
     let both = fill-refused (record_tests x y) (series_bytes x y) c.args.out.now _ (sym c.joinable.ensures ∙ ap done c.in-Refused.is) in record { answer = both.0; slice = both.1 }

@@ -1,11 +1,8 @@
 -- `orders::count`: what was counted, and what stands from the next part on, make the whole.
-use mathlib.Core.Path.{◌≡◌, ap, ◌∙◌}
+use mathlib.Core.Path.{◌≡◌}
 use Prim.Native.Nat.{◌+◌, ◌-◌, ◌≤◌}
-use native.Mathlib.Omega.{arith}
-use lib.ListN.{drop, length, length-take}
-use borrow.Author.Rules.{rules}
+use lib.ListN.{drop, length}
 use Rattle.orders.specs.Order.{count}
-use Rattle.orders.proofs.Scans.{count-part, count_most, count_past}
 use Rattle.orders.proofs.count.Given as goal
 
 abbrev pub invariant-loop-at : goal.invariant-loop-at

@@ -1,11 +1,8 @@
 -- `orders::count_few`: what was counted, and what stands from i on, make the whole.
 use mathlib.Core.Path.{◌≡◌}
 use Prim.Native.Nat.{◌+◌, ◌-◌, ◌≤◌}
-use native.Mathlib.Omega.{arith}
 use lib.ListN.{drop, length}
-use borrow.Author.Rules.{rules}
 use Rattle.orders.specs.Order.{count}
-use Rattle.orders.proofs.Scans.{count_next, count-end}
 use Rattle.orders.proofs.count_few.Given as goal
 
 abbrev pub invariant-loop-i : goal.invariant-loop-i

@@ -1,9 +1,8 @@
 -- `orders::hits_in`: what was counted, and what stands from the next place on, make what stands from `at` on.
 use mathlib.Core.Path.{◌≡◌, ap}
-use Prim.Native.Nat.{◌+◌, ◌-◌, ◌*◌, ◌≤◌}
+use Prim.Native.Nat.{◌+◌}
 use native.Mathlib.Omega.{arith}
 use lib.ListN.{drop}
-use borrow.Author.Rules.{rules}
 use Rattle.orders.specs.Order.{count}
 use Rattle.orders.proofs.Scans.{count_next, count-part}
 use Rattle.orders.proofs.hits_in.Goals as goal

@@ -1,14 +1,11 @@
 -- `orders::is_order`: the members before v stand once, so those from v on decide.
-use mathlib.Core.Path.{◌≡◌, refl, sym, ap, ◌∙◌}
-use mathlib.Core.Bool.{true, false, and-true, ◌&&◌}
-use Prim.Native.Nat.{ℕ, ◌+◌, ◌-◌, ◌*◌, ◌≤◌, ◌<◌}
-use native.Mathlib.Omega.{arith}
-use borrow.Author.Tests.{eqb-true, ne_eqb}
-use borrow.Author.Rules.{rules}
+use mathlib.Core.Path.{◌≡◌}
+use mathlib.Core.Bool.{◌&&◌}
+use Prim.Native.Nat.{◌+◌, ◌-◌, ◌*◌, ◌≤◌, ◌<◌}
 use lib.Dec.{eqb}
 use lib.ListN.{drop, length}
 use Rattle.orders.specs.Order.{count, is_order_of}
-use Rattle.orders.proofs.Scans.{count-part, count-some, room-length, count_room, count-room-end, stand_from, stand-other, stand-end, stands-not, stands-once}
+use Rattle.orders.proofs.Scans.{stand_from}
 use Rattle.orders.proofs.is_order.Given as goal
 
 -- what was hit, and what stands from `at` on, make the whole; a scan that has come to the end of the places has hit once

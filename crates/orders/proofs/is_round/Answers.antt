@@ -1,7 +1,6 @@
 -- `orders::is_round`: a class of n members, named by place, is n elements of one class.
 use mathlib.Core.Path.{ap₂, ◌∙◌}
 use mathlib.Core.Bool.{◌&&◌}
-use borrow.Author.Rules.{rules}
 use lib.ListN.{take, drop}
 use Rattle.orders.proofs.Orders.{first-few, first-size, first-order}
 use Rattle.orders.proofs.is_round.Goals as goal
