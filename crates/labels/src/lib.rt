@@ -1,5 +1,6 @@
 // Labels that spread along arcs, backward from the target, the largest level first.
 #![tactic(auto)]
+
 ghost use Rattle.std.specs.Prelude.{[], ◌+◌, ◌-◌, ◌≤◌, ◌<◌, length};
 ghost use Rattle.limits.specs.Limits.{max_position};
 ghost use Rattle.relax.specs.Steps.{Graph, Work, NextLevel, Settled, Floodable, Lengths};

@@ -1,11 +1,10 @@
 -- `labels::drain` empties the stack, or stops when the source has the level; every push lowers the count of nodes below the level.
 use mathlib.Core.Path.{refl, sym, ap, ◌∙◌}
-use Prim.Native.Nat.{◌+◌, ◌-◌, ◌*◌}
+use Prim.Native.Nat.{◌-◌}
 use native.Mathlib.Omega.{arith}
 use lib.ListN.{get_or, set}
 use borrow.Author.Tests.{leb-true}
-use borrow.Author.Rules.{rules}
-use Rattle.relax.specs.Steps.{Graph, low, Floodable}
+use Rattle.relax.specs.Steps.{Graph, Floodable}
 use Rattle.labels.proofs.Drains.{Draining, begin, emptied, drained, unset, restack, popped}
 use Rattle.labels.proofs.drain.Goals as goal
 

@@ -1,12 +1,7 @@
 -- `labels::drain` empties the stack, or stops when the source has the level; every push lowers the count of nodes below the level.
-use mathlib.Core.Path.{refl, sym, ap, ◌∙◌}
 use Prim.Native.Nat.{◌+◌, ◌-◌, ◌*◌}
-use native.Mathlib.Omega.{arith}
-use lib.ListN.{get_or, set}
-use borrow.Author.Tests.{leb-true}
-use borrow.Author.Rules.{rules}
 use Rattle.relax.specs.Steps.{Graph, low, Floodable}
-use Rattle.labels.proofs.Drains.{Draining, begin, emptied, drained, unset, restack, popped}
+use Rattle.labels.proofs.Drains.{Draining}
 use Rattle.labels.proofs.drain.Given as goal
 
 abbrev pub invariant-loop-top : goal.invariant-loop-top

@@ -1,14 +1,7 @@
 -- `labels::flood` goes from level to level until none waits above the source's label.
-use mathlib.Core.Path.{◌≡◌, refl, ap, subst}
-use mathlib.Core.List.{[]}
-use Prim.Native.Nat.{suc, ◌+◌, ◌-◌, ◌≤◌, ◌<◌}
-use native.Mathlib.Nat.{pos_of_ne-zero}
-use native.Mathlib.Omega.{arith}
-use lib.ListN.{length, get_or}
-use borrow.Author.Rules.{rules}
-use Rattle.limits.specs.Limits.{max_position}
-use Rattle.relax.specs.Steps.{Graph, Work, NextLevel, Floodable, Lengths}
-use Rattle.labels.proofs.Drains.{Flooding, flooded, settle, joined, leveled}
+use Prim.Native.Nat.{◌-◌}
+use Rattle.relax.specs.Steps.{Graph, Floodable}
+use Rattle.labels.proofs.Drains.{Flooding}
 use Rattle.labels.proofs.flood.Given as goal
 
 abbrev pub invariant-loop-begin : goal.invariant-loop-begin

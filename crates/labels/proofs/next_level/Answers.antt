@@ -1,16 +1,14 @@
 -- `labels::next_level` goes down from the level: no level above m waits.
 use mathlib.Core.Path.{sym, ap, ◌∙◌}
-use Prim.Native.Nat.{◌≤◌, ◌<◌}
+use Prim.Native.Nat.{◌<◌}
 use native.Mathlib.Omega.{arith}
 use lib.ListN.{get_or}
-use borrow.Author.Rules.{rules}
 use borrow.Author.Tests.{ltb-true, ltb-false}
-use Rattle.limits.specs.Limits.{max_position}
-use Rattle.labels.proofs.Drains.{Seeking, sought, sought-none, seek-on}
+use Rattle.labels.proofs.Drains.{sought, sought-none, seek-on}
 use Rattle.labels.proofs.next_level.Goals as goal
 
 pub loop-floor-init : goal.loop-floor-init
-loop-floor-init c = let p = c.requires in (record { low = omega (arith, p); none = λ ⟦After-shared-slice-known⟧ b k. absurd (omega (arith, p)); long = p.2 }, p.1)
+loop-floor-init c = let p = c.requires in (record { low = omega (arith, p); none = λ m b k. absurd (omega (arith, p)); long = p.2 }, p.1)
 
 pub bounds-wait-wide : goal.bounds-wait-wide
 bounds-wait-wide c = let l = c.loop-floor.invariant in omega (arith, l.0.low, l.0.long, l.1, c.wide.ensures)
