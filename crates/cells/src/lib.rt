@@ -1,6 +1,7 @@
 // The cells of a tally and a front record: each cell where it holds raised or lowered, and whether
 // it may be lowered.
 #![tactic(auto)]
+
 ghost use Rattle.std.specs.Prelude.{◌≡◌, ◌||◌, ℕ, ◌+◌, ◌*◌, ◌≤◌, ◌<◌, max, T, ltb, length, get_or};
 ghost use Rattle.limits.specs.Limits.{max_position};
 ghost use Rattle.laws.specs.Every.{every};

@@ -1,6 +1,7 @@
 // The arcs of entries as chains into each node, a node in the middle of each arc that may fail. One
 // slice keeps all: `size` heads, then two places for each arc, where it begins and what follows it.
 #![tactic(auto)]
+
 ghost use Rattle.std.specs.Prelude.{◌≡◌, List, ◌++◌, ℕ, ◌+◌, ◌*◌, ◌≤◌, ◌<◌, length, get_or};
 ghost use Rattle.limits.specs.Limits.{max_arcs, arc_size, arc_count};
 ghost use Rattle.laws.specs.Members.{◌∈◌};

@@ -110,9 +110,12 @@ module _ (net : Network) where
 
   -- a route that passes x, from x on
   cut : (x u : ℕ) (ks : List Arc) → RouteFrom net.arcs u net.target ks → x ∈ visits u ks → Reaches x (pair_on net u ks)
-  cut x u ks r (Memᴰ.head e) = subst (λ v. Reaches v (pair_on net u ks)) (sym e) (ks, r, omega arith)
-  cut x u (k ∷ ks) r (Memᴰ.tail m) = let c = cut x k.to ks (r.0.2, r.1.1) m in (c.0, c.1, omega arith)
-  cut x u [] r (Memᴰ.tail m) = elim m [ ]
+  cut x u [] r m = ⊎_elim (λ e. subst (λ v. Reaches v (pair_on net u [])) (sym e) ([], r, omega arith)) (λ q. elim q [ ]) (Memᴰ.cases_cons m)
+  cut x u (k ∷ ks) r m =
+      ⊎_elim
+      (λ e. subst (λ v. Reaches v (pair_on net u (k ∷ ks))) (sym e) (k ∷ ks, r, omega arith))
+      (λ q. let c = cut x k.to ks (r.0.2, r.1.1) q in (c.0, c.1, omega arith))
+      (Memᴰ.cases_cons m)
 
   pub straighten : (u : ℕ) (ks : List Arc) → Walk net.arcs u net.target ks → Reaches u (pair_on net u ks)
   straighten u [] w = ([], (w, (λ y m. elim m [ ], tt)), omega arith)

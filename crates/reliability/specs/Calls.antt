@@ -1,5 +1,5 @@
 -- What reliability answers (document 01, "Chances and reliability").
-use Rattle.std.specs.Prelude.{Bool, ◌||◌, List, [], ◌∷◌, ◌++◌, ℕ, ◌+◌, eqb, ltb}
+use Rattle.std.specs.Prelude.{Bool, ◌||◌, List, [], ◌∷◌, ◌++◌, ℕ, eqb, ltb}
 use Rattle.answer.specs.Outcome.{Outcome, outcome}
 use Rattle.chance.specs.Chance.{sum_s, rate_r}
 use Rattle.soundness.specs.Tally.{tally_size1, tally_size2, rounds, cell, state_tests}

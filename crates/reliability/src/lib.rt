@@ -1,5 +1,6 @@
 // Reliability: the chance that a round of a tally holds.
 #![tactic(auto)]
+
 ghost use Rattle.std.specs.Prelude.{◌≡◌, ℕ, ◌+◌, ◌*◌, ◌≤◌, ◌<◌, length};
 ghost use Rattle.limits.specs.Limits.{max_class};
 ghost use Rattle.answer.specs.Outcome.{rated};

@@ -5,13 +5,15 @@ use mathlib.Core.Logic.{∥∥₁_prop, ∥∥₁_elim, ∥∥₁_map}
 use mathlib.Core.List.{List, [], ◌∷◌}
 use Prim.Native.Nat.{ℕ}
 use mir.Val.{Val}
-use base.Logic.{SProp, ent, sep, ex, emp, guard, via, comm∗, assoc∗, assoc', mono_l, mono_r, fst∗, snd∗, id⊢}
+use base.Logic.{SProp, ent, sep, ex, emp, via, comm∗, assoc∗, assoc', mono_l, mono_r, fst∗, snd∗, id⊢}
 use base.Fml.{Fml}
 use prog.Memory.{Memory}
 use prog.Machine.{done as ended}
-use prog.Routine.{any_name, ends-one}
+use prog.Routine.{any_callee, ends-one, step}
+use prog.How.{Solo}
 use types.Logic.{sem}
-use contract.Monad.{fact, guard→fact}
+use contract.Monad.{fact}
+use contract.Closed.{real⁺_strict}
 use contract.Running.{tables, MachineTables}
 use contract.Lifetimes.{Lfts, AllOutlive}
 use contract.Adequate.{Satisfies, sat_ex∗}
@@ -24,7 +26,7 @@ use denote.Triple.Walked.{Fit as LastsFit}
 use denote.Triple.Adequate.{adequate}
 use borrow.Fn.World.{World, w₀}
 use borrow.Fn.Plain.{known_of}
-use borrow.Fn.Kinds.{ResultKind, Dens, In, res_t, os_r, slots, kepts, ended_of, stays}
+use borrow.Fn.Kinds.{ResultKind, Dens, res_t, os_r, slots, kepts, ended_of, stays}
 use Rattle.runs.specs.Arguments.{Block, Arg, Result, value, part, Fit, lent, values, kinds, kind, Names, args_of}
 use Rattle.runs.specs.Run.{at, memory_before, Held, Smalls, left, Lies, Run, CallOf, Ends, AlwaysEnds}
 use Rattle.runs.proofs.Start.{AllOwned, started}
@@ -54,7 +56,7 @@ module _ (ω : World) where
 
   infix 26 ◌⊨◌
   -- the result lies in memory, while the lifetimes last
-  lies : {n : ℕ} (r : Result n) (αs : Times n) (σ : Memory) (x : (res_t (kind r) (times n αs)).Denot) (v : Val) → σ ⊨ alive ω n αs ∗ means ((res_t (kind r) (times n αs)).own x (v ∷ [])) → ∥ Lies (times n αs) r x σ ∥₁
+  lies : {n : ℕ} (r : Result n) (αs : Times n) (σ : Memory) (x : (res_t (kind r) (times n αs)).Denot) (v : Val) → σ ⊨ alive ω n αs ∗ means ((res_t (kind r) (times n αs)).own_val x (v ∷ [])) → ∥ Lies (times n αs) r x σ ∥₁
   lies (value r) αs σ x v s = ∣ tt ∣₁
   lies {n} (part e j ok) αs σ x v s = part_held ω n αs σ e j ok x v s
 
@@ -76,7 +78,7 @@ module _ (ω : World) where
     Known = known_of ω.𝓛 n (kinds us) r c.asks c.promise
 
     abbrev pub Meets : Type 1
-    Meets = Triple ω.𝓤 (tabled.C any_name) Known
+    Meets = Triple ω.𝓤 (tabled.C any_callee) Known
 
     -- what is asked of the signature and of the contract: that the lifetimes meet the bounds, and that the arguments meet the `requires`
     abbrev pub Bounded : Type 0
@@ -85,7 +87,8 @@ module _ (ω : World) where
     abbrev pub Asked : Type 0
     Asked = (b : ℕ) (κs : Lfts n) (γs : Names us) → c.asks κs (args_of κs b us γs)
 
-  module _ (c : Run) (meets : Meets c) (fit : Fit c.args) (others : List Block) (small : Smalls others) (others-began : Held (memory_before others c.args) 2 others) (began : Held (memory_before others c.args) (at others) (lent c.args)) (bounds : Bounded c) (asked : Asked c) where
+  -- no status of the process is allowed, and no other thread runs: the machine's run is the call's alone
+  module _ (strict : ((s : ℕ) → ω.𝓡.allowed s → ⊥) × Solo ω.𝓤 ω.𝓡.how) (c : Run) (meets : Meets c) (fit : Fit c.args) (others : List Block) (small : Smalls others) (others-began : Held (memory_before others c.args) 2 others) (began : Held (memory_before others c.args) (at others) (lent c.args)) (bounds : Bounded c) (asked : Asked c) where
     module _ (αs : Times (n c)) (γs : Names (us c)) where
       abbrev κs : Lfts (n c)
       κs = times (n c) αs
@@ -106,7 +109,7 @@ module _ (ω : World) where
       Facts x ws = LastsFit (ended_of (n c) (kinds (us c)) (r c)) (stays (kinds (us c))) κs a ws × c.promise κs a x (at_exit (ended_of (n c) (kinds (us c)) (r c)) κs a ws)
 
       abbrev Runs : ℕ → Val → Memory → Type 0
-      Runs k v σ = c.routine.step k (flat (types_at (slots (kinds (us c))) κs) (vals κs (at others) (us c))) (memory_before others (us c)) ≡ ended (v, σ)
+      Runs k v σ = step c.routine k (flat (types_at (slots (kinds (us c))) κs) (vals κs (at others) (us c))) (memory_before others (us c)) ≡ ended (v, σ)
 
       -- what it leaves, by what is bound at the return
       abbrev left_by : Final κs (at others) (us c) γs → List Block
@@ -116,8 +119,8 @@ module _ (ω : World) where
       made : (x : Res) (ws : Final κs (at others) (us c) γs) → Facts x ws → CallOf c
       made x ws p = record { lifetimes = κs; args = a; result = x; last = ws; kept = p.1 }
 
-      returned : (k : ℕ) (v : Val) (σ : Memory) → Runs k v σ → c.routine.step k (values (at others) (us c)) (memory_before others (us c)) ≡ ended (v, σ)
-      returned k v σ e = subst (λ vs. c.routine.step k vs (memory_before others (us c)) ≡ ended (v, σ)) (passed κs (at others) (us c)) e
+      returned : (k : ℕ) (v : Val) (σ : Memory) → Runs k v σ → step c.routine k (values (at others) (us c)) (memory_before others (us c)) ≡ ended (v, σ)
+      returned k v σ e = subst (λ vs. step c.routine k vs (memory_before others (us c)) ≡ ended (v, σ)) (passed κs (at others) (us c)) e
 
       done-so : (k : ℕ) (v : Val) (σ : Memory) → Runs k v σ → (x : Res) (ws : Final κs (at others) (us c) γs) → Facts x ws → Is x v → Lies κs c.result x σ
           → Held σ (at others) (left_by ws) × Smalls (left_by ws) → Held σ 2 others → Ends others c
@@ -145,7 +148,7 @@ module _ (ω : World) where
 
       -- what there is at the return, beside what the lender kept
       abbrev Last : Val → Res → Final κs (at others) (us c) γs → Pr
-      Last v x ws = (Said ω (n c) αs (at others) (us c) γs ws ∗ fact ω.𝓤 (Facts x ws)) ∗ alive ω (n c) αs ∗ means ((res_t (r c) κs).own x (v ∷ []))
+      Last v x ws = (Said ω (n c) αs (at others) (us c) γs ws ∗ fact ω.𝓤 (Facts x ws)) ∗ alive ω (n c) αs ∗ means ((res_t (r c) κs).own_val x (v ∷ []))
 
       abbrev Lent : Pr
       Lent = Kept ω κs (at others) (us c) γs
@@ -164,14 +167,12 @@ module _ (ω : World) where
           let Tokens = alive ω (n c) αs in
           let Front = Said ω (n c) αs (at others) (us c) γs z.0 in
           let Fact = fact ω.𝓤 (Facts x.0 z.0) in
-          let Own = means ((res_t (r c) κs).own x.0 (v ∷ [])) in
+          let Own = means ((res_t (r c) κs).own_val x.0 (v ∷ [])) in
           let Back = Tokens ∗ Own in
           let here = weaken ω σ (fst∗ ω.𝓤 (Last v x.0 z.0) Aside) z.1 in
           let last = weaken ω σ (snd∗ ω.𝓤 (Front ∗ Fact) Back) here in
-          let own = ((r c).laws _ ω.𝓤 ω.𝓛).old κs x.0 (v ∷ []) in
           ∥∥₁_elim (shown ω σ (Facts x.0 z.0) (via ω.𝓤 (Front ∗ Fact) (fst∗ ω.𝓤 (Front ∗ Fact) Back) (snd∗ ω.𝓤 Front Fact)) here) ∥∥₁_prop (λ p.
-          ∥∥₁_elim (shown ω σ (Is x.0 v) (via ω.𝓤 Own (snd∗ ω.𝓤 Tokens Own)
-          (via ω.𝓤 (guard ω.𝓤 (Is x.0 v) (means ((r c).is.ownᵒ κs x.0))) own (guard→fact ω.𝓤 (Is x.0 v) (means ((r c).is.ownᵒ κs x.0))))) last) ∥∥₁_prop (λ q.
+          ∥∥₁_elim (shown ω σ (Is x.0 v) (via ω.𝓤 Own (snd∗ ω.𝓤 Tokens Own) (((r c).laws _ ω.𝓤 ω.𝓛).seen κs x.0 (v ∷ []))) last) ∥∥₁_prop (λ q.
           ∥∥₁_elim (lies c.result αs σ x.0 v last) ∥∥₁_prop (λ y.
           ∥∥₁_elim (all-loaded ω σ others 2 (weaken ω σ (via ω.𝓤 Aside (snd∗ ω.𝓤 (Last v x.0 z.0) Aside) (snd∗ ω.𝓤 Lent Others)) z.1)) ∥∥₁_prop (λ o.
           ∥∥₁_map (back ω (n c) αs σ (us c) (at others) γs z.0 (over ω (n c) αs σ (Front ∗ Lent) (weaken ω σ
@@ -184,7 +185,7 @@ module _ (ω : World) where
       entered s =
           let Tokens = alive ω (n c) αs in
           let In = Passed ω κs (at others) (us c) γs in
-          ∥∥₁_elim (adequate ω.𝓤 ω.𝓛.H ω.𝓜 (tabled c) any_name (Known c) meets bound (memory_before others (us c)) Aside (weaken ω (memory_before others (us c))
+          ∥∥₁_elim (adequate ω.𝓤 ω.𝓛.H ω.𝓜 (tabled c) strict any_callee (Known c) meets bound (memory_before others (us c)) Aside (weaken ω (memory_before others (us c))
           (via ω.𝓤 (Tokens ∗ In ∗ Aside) (comm∗ ω.𝓤 (In ∗ Aside) Tokens)
           (via ω.𝓤 ((Tokens ∗ In) ∗ Aside) (assoc' ω.𝓤 Tokens In Aside) (mono_l ω.𝓤 Aside (with_fact ω (c.asks κs a) (Tokens ∗ In) (asked (at others) κs γs))))) s)) ∥∥₁_prop (λ t.
           finish t.0 t.1 t.2 t.3 t.4)
@@ -218,7 +219,7 @@ always c meets bounds asked = record { free = asked; ends = ran }
         let s = started w₀ others c.args small fit in
         ∥∥₁_elim (all-loaded w₀ σ (lent c.args) (at others) (weaken w₀ σ (fst∗ w₀.𝓤 Lot (sep w₀.𝓤 Rest none)) s)) ∥∥₁_prop (λ began.
         ∥∥₁_elim (all-loaded w₀ σ others 2 (weaken w₀ σ (via w₀.𝓤 (sep w₀.𝓤 Rest none) (snd∗ w₀.𝓤 Lot (sep w₀.𝓤 Rest none)) (fst∗ w₀.𝓤 Rest none)) s)) ∥∥₁_prop (λ others-began.
-        ends w₀ c meets fit others small others-began began bounds asked))
+        ends w₀ real⁺_strict c meets fit others small others-began began bounds asked))
 
 -- ---- what a run's call says of the run's own arguments: its contract, and what the memory holds
 pub record Told (others : List Block) (c : Run) (e : Ends others c) : Type 0 where

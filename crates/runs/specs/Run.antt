@@ -1,13 +1,13 @@
 -- WHAT IT IS THAT A CALL ENDS on the machine (`AlwaysEnds`): nothing is asked of its arguments, and for all that a machine can hold the function's own
 -- code, run from a memory that holds them and anything else, ends, and makes a call with these arguments; the memory of every lent slice then holds what
 -- that call left, all else what it held.
-use Rattle.std.specs.Prelude.{◌≡◌, List, [], ◌∷◌, ◌++◌, ℕ, suc, ◌+◌, length}
+use Rattle.std.specs.Prelude.{◌≡◌, true, List, [], ◌∷◌, ◌++◌, ℕ, suc, ◌+◌, length}
 use Rattle.std.proofs.Math.Option.{some}
 use mir.Mem.{Cell}
 use mir.Val.{Val}
 use prog.Memory.{Memory, size, align, enc, load_m}
 use prog.Machine.{done as ended}
-use prog.Routine.{Routine}
+use prog.Routine.{Routine, step}
 use contract.Lifetimes.{Lfts}
 use denote.Triple.End.{Outs}
 use denote.Triple.Walked.{Fit as LastsFit}
@@ -16,18 +16,18 @@ use Rattle.runs.specs.Call.{Call, after}
 use Rattle.runs.specs.Arguments.{Elem, Of, ty, val, Small, Block, block, All, SliceFits}
 use Rattle.runs.specs.Arguments.{Arg, number, real, shared, mutable, place, Result, value, part, Fit, lent, values, kinds, kind, Names, args_of}
 
--- ---- BEFORE: a block's elements side by side, as the machine stores them (an integer with its lowest byte first)
+-- ---- BEFORE: a block's elements side by side, as the machine stores them (an integer with its lowest byte first); every block may be written
 abbrev pub cells : (e : Elem) → List (Of e) → List Cell
 cells e [] = []
 cells e (x ∷ xs) = enc (ty e) (val e x) ++ cells e xs
 
 abbrev pub blocks : List Block → Memory
 blocks [] = []
-blocks (block e xs ∷ bs) = some (align (ty e), cells e xs) ∷ blocks bs
+blocks (block e xs ∷ bs) = some (align (ty e), cells e xs, true) ∷ blocks bs
 
 -- a memory with any other blocks in it, and behind them what is lent, from block `at` on. (The kit's memory begins with two blocks of its own, empty here.)
 abbrev pub other_blocks : List Block → Memory
-other_blocks others = some (1, []) ∷ some (1, []) ∷ blocks others
+other_blocks others = some (1, [], true) ∷ some (1, [], true) ∷ blocks others
 
 abbrev pub at : List Block → ℕ
 at others = length (other_blocks others)
@@ -90,16 +90,16 @@ pub record Possible {n : ℕ} {ps : List (ParamKind n)} {r : ResultKind n} {prom
 
 -- IT ENDS, in a memory with these other blocks
 pub record Ends (others : List Block) (c : Run) : Type 0 where
-  -- from the start, which holds them and what is lent, the code returns with some fuel a value and a memory
+  -- from the start, which holds them and what is lent, the code, with no other thread beside it (`step`), returns with some fuel a value and a memory
   pub others-began : Held (memory_before others c.args) 2 others
   pub began : Held (memory_before others c.args) (at others) (lent c.args)
   pub fuel : ℕ
   pub value : Val
   pub memory : Memory
-  pub returns : c.routine.step fuel (values (at others) c.args) (memory_before others c.args) ≡ ended (value, memory)
+  pub returns : step c.routine fuel (values (at others) c.args) (memory_before others c.args) ≡ ended (value, memory)
   -- (whatever the fuel, it ends in no other way)
   pub only : (k : ℕ) (v : Val) (σ : Memory)
-      → c.routine.step k (values (at others) c.args) (memory_before others c.args) ≡ ended (v, σ) → (v ≡ value) × (σ ≡ memory)
+      → step c.routine k (values (at others) c.args) (memory_before others c.args) ≡ ended (v, σ) → (v ≡ value) × (σ ≡ memory)
   -- and so makes a call with these arguments
   pub made : CallOf c
   pub names : Names c.args

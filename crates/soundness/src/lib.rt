@@ -1,5 +1,6 @@
 // A tally's words, and whether it is sound.
 #![tactic(auto)]
+
 ghost use Rattle.std.specs.Prelude.{◌≡◌, ◌+◌, ◌*◌, ◌≤◌, length};
 ghost use Rattle.limits.specs.Limits.{max_class};
 ghost use Rattle.answer.specs.Outcome.{done};

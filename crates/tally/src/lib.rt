@@ -1,5 +1,6 @@
 // Tallies: for each count of working nodes, how many of the rounds that were added hold.
 #![tactic(auto)]
+
 ghost use Rattle.std.specs.Prelude.{◌≡◌, [], ◌∷◌, ◌++◌, ◌≤◌, ◌<◌, length, get_or, set, drop, replicate};
 ghost use Rattle.answer.specs.Outcome.{success, done, scored};
 ghost use Rattle.soundness.specs.Tally.{head_words};

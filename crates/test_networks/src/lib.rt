@@ -1,5 +1,6 @@
 // Networks made from a seed: node bytes, arc bytes and rounds of a study.
 #![tactic(auto)]
+
 ghost use Rattle.std.specs.Prelude.{◌+◌, ◌≤◌, ◌<◌, length};
 
 use test_support::{byte, flag, pick, poke, times};

@@ -1,6 +1,7 @@
 // A plain reading of study files as they were before S-4 of document 02, arcs of two bytes and rounds
 // of node numbers, and of the converter. Trailer and nodes are read as in new files.
 #![tactic(auto)]
+
 ghost use Rattle.std.specs.Prelude.{◌*◌, ◌≤◌, ◌<◌, length};
 
 use test_files::{

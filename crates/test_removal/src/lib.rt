@@ -1,6 +1,7 @@
 // Removal testing, all routes one by one, and how many rounds hold: no code is shared with the
 // library.
 #![tactic(auto)]
+
 ghost use Rattle.std.specs.Prelude.{◌≡◌, ◌+◌, ◌≤◌, ◌<◌, length};
 
 use test_support::{byte, flag, poke, put, record_holds, word};

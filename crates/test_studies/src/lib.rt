@@ -1,5 +1,6 @@
 // Generated studies: good ones of all sizes, and damaged ones.
 #![tactic(auto)]
+
 ghost use Rattle.std.specs.Prelude.{◌≡◌, ◌≤◌, ◌<◌, length};
 
 use test_files::{members, minus, size_of};

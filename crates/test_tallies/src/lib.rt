@@ -1,6 +1,7 @@
 // A plain reading of documents 01 and 02 for tallies, weights and reliability, cell by cell: no code
 // is shared with the library.
 #![tactic(auto)]
+
 ghost use Rattle.std.specs.Prelude.{◌+◌, ◌*◌, ◌≤◌, ◌<◌};
 
 use test_support::{byte, flag, pick, poke, put, record_holds, word};

@@ -1,5 +1,6 @@
 // Weights of the counts of working nodes, and house ageing.
 #![tactic(auto)]
+
 ghost use Rattle.std.specs.Prelude.{◌≡◌, ◌++◌, ℕ, ◌+◌, ◌≤◌, ◌<◌, length, get_or, take, drop};
 ghost use Rattle.answer.specs.Outcome.{done, aged};
 ghost use Rattle.chance.specs.Chance.{sends, spread, weights};

@@ -1,0 +1,17 @@
+-- `compose::merge_parallel`: the buffer has collected all pairs but those that are left (`Merging either max`).
+use mathlib.Core.Path.{◌≡◌, sym, ◌∙◌}
+use Prim.Native.Nat.{max, ◌+◌, ◌-◌, ◌≤◌}
+use native.Mathlib.Omega.{arith}
+use borrow.Author.Tests.{leb-true, leb-false}
+use borrow.Author.Rules.{rules}
+use lib.ListN.{length}
+use Rattle.record.specs.Record.{record_size1, record_size2, listed}
+use Rattle.record.proofs.Bytes.{pair-at}
+use Rattle.compose.proofs.Merges.{either, Merging, merging-none, left-puttable, right-puttable, parallel-left, parallel-right, parallel-done, pair_is, count-is}
+use Rattle.compose.proofs.merge_parallel.Given as goal
+
+abbrev pub invariant-loop-i : goal.invariant-loop-i
+invariant-loop-i l = Merging either max (record_size1 l.left) (record_size2 l.left) (listed l.left) (listed l.right) l.i l.j l.joined × (l.pairs ≡ length (listed l.left) + length (listed l.right)) × (l.pairs ≤ 130)
+
+abbrev pub decreases-loop-i : goal.decreases-loop-i
+decreases-loop-i l = l.pairs - (l.i + l.j)

@@ -1,0 +1,20 @@
+-- `compose::merge_series`: the buffer has collected all minima but those of the pairs that are left (`Merging both min`).
+use mathlib.Core.Path.{◌≡◌, sym, ◌∙◌}
+use mathlib.Core.Logic.{inl, inr}
+use Prim.Native.Nat.{min, ◌+◌, ◌-◌, ◌≤◌}
+use native.Mathlib.Nat.{le_of_lt}
+use native.Mathlib.Omega.{arith}
+use borrow.Author.Tests.{leb-true, leb-false}
+use borrow.Author.Rules.{rules}
+use lib.ListN.{length}
+use Rattle.limits.specs.Limits.{max_class}
+use Rattle.record.specs.Record.{record_size1, record_size2, listed}
+use Rattle.record.proofs.Bytes.{pair-at}
+use Rattle.compose.proofs.Merges.{both, Merging, merging-none, series-puttable, series-left, series-right, series-done, pair_is, count-is}
+use Rattle.compose.proofs.merge_series.Given as goal
+
+abbrev pub invariant-loop-i : goal.invariant-loop-i
+invariant-loop-i l = Merging both min (record_size1 l.left) (record_size2 l.left) (listed l.left) (listed l.right) l.i l.j l.joined × (l.k ≡ length (listed l.left)) × (l.m ≡ length (listed l.right)) × (l.k ≤ max_class + 1) × (l.m ≤ max_class + 1)
+
+abbrev pub decreases-loop-i : goal.decreases-loop-i
+decreases-loop-i l = (l.k - l.i) + (l.m - l.j)

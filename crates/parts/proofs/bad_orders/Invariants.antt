@@ -1,0 +1,26 @@
+-- `parts::bad_orders`: the rounds before r are good, so those from r on decide.
+use mathlib.Core.Path.{◌≡◌, sym, ap, ◌∙◌}
+use mathlib.Core.Bool.{Bool, ◌&&◌}
+use mathlib.Core.List.{List}
+use Prim.Native.Nat.{ℕ, ◌+◌, ◌-◌, ◌*◌, ◌≤◌}
+use native.Mathlib.Omega.{arith}
+use borrow.Author.Tests.{not-true, not-false}
+use borrow.Author.Rules.{rules}
+use lib.ListN.{length-take, take, drop, length}
+use Rattle.laws.specs.Sums.{product-most}
+use Rattle.limits.specs.Limits.{max_round_size, max_rounds}
+use Rattle.laws.specs.Members.{all}
+use Rattle.orders.specs.Order.{is_order_of}
+use Rattle.parts.specs.Study.{pieces}
+use Rattle.parts.proofs.Rounds.{good_from, good-first, good-next, good-end}
+use Rattle.parts.proofs.bad_orders.Given as goal
+
+-- the test of a round
+abbrev pub good : List ℕ → List ℕ → ℕ → List ℕ → Bool
+good classes1 classes2 n1 x = is_order_of 1 classes1 (take n1 x) && is_order_of 2 classes2 (drop n1 x)
+
+abbrev pub invariant-loop-r : goal.invariant-loop-r
+invariant-loop-r l = (l.r ≤ l.rounds) × (all (good l.classes1 l.classes2 l.n1) (pieces l.rounds l.n l.bytes) ≡ good_from (good l.classes1 l.classes2 l.n1) l.rounds l.n l.bytes l.r)
+
+abbrev pub decreases-loop-r : goal.decreases-loop-r
+decreases-loop-r l = l.rounds - l.r

@@ -1,0 +1,7 @@
+-- `sections::trailer_at` is the file's length minus 32.
+use native.Mathlib.Omega.{arith}
+use borrow.Author.Rules.{rules}
+use Rattle.sections.proofs.trailer_at.Goals as goal
+
+pub returns : goal.returns
+returns c = (c.less.ensures, omega (arith, c.less.ensures))
