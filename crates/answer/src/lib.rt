@@ -1,5 +1,6 @@
 // What the calls answer: a refusal with its number, or the values of a success.
 #![tactic(auto)]
+
 ghost use Rattle.std.specs.Prelude.{◌≡◌, [], length};
 ghost use Rattle.answer.specs.Outcome.{number_of, written, fill_answer, fill_out};
 
@@ -150,6 +151,10 @@ pub fn deliver(bytes: &[u8], out: &mut [u8]) -> Written
     if out.len() < bytes.len() {
         return Written::Refused(Refusal::OutputShort);
     }
-    out[0..bytes.len()].copy_from_slice(bytes);
+    let mut i = 0;
+    while i < bytes.len() {
+        out[i] = bytes[i];
+        i += 1;
+    }
     Written::Bytes(bytes.len())
 }

@@ -1,6 +1,7 @@
 // The members of both classes, nodes by number and then arcs by place, and a round's orders by
 // element.
 #![tactic(auto)]
+
 ghost use Rattle.std.specs.Prelude.{◌≡◌, ℕ, ◌+◌, ◌*◌, ◌≤◌, ◌<◌, length, get_or, take};
 ghost use Rattle.limits.specs.Limits.{max_nodes, max_arcs, arc_size};
 ghost use Rattle.laws.specs.Members.{◌∈◌};

@@ -15,7 +15,7 @@ use Rattle.record.specs.Record.{record_bytes, front_bytes}
 use Rattle.orders.specs.Order.{count, order1, order2, is_order}
 use Rattle.orders.proofs.Orders.{order-length}
 use Rattle.orders.proofs.Scans.{count-append}
-use Rattle.parts.specs.Study.{Study, entry_class, elements, study_elements, entries_from}
+use Rattle.parts.specs.Study.{Study, Arc, entry_class, elements, study_elements, entries_from}
 use Rattle.parts.proofs.Scans.{entries-length}
 use Rattle.network.specs.Walk.{route_pairs}
 use Rattle.network.specs.Round.{study_size1, study_size2, round_at, round_front}
@@ -114,9 +114,17 @@ module _ {st : Study} {r : ℕ} {nodes arcs o1 o2 : List ℕ} {s t : ℕ} (g : R
     pub found : front_bytes (length a) (length b) (route_pairs (order_network (split_entries (length nodes) 0 (entries_from arcs)) a b s t))
         ≡ record_bytes (study_size1 st) (study_size2 st) (round_front st r)
     found =
-        rw (arcs-are, is-a, is_b, ← g.source_is, ← g.target_is)
-        (ap₂ (λ m n. record_bytes m n (front-found)) size1 size2 ∙ ap (record_bytes (study_size1 st) (study_size2 st)) (search-front st g.within r g.good))
+        ap (λ l. front_of l a b s t) arcs-are ∙ ap (λ o. front_of split o b s t) is-a ∙ ap (λ o. front_of split (round_order1 st r) o s t) is_b
+        ∙ ap (λ n. front_of split (round_order1 st r) (round_order2 st r) n t) (sym g.source_is)
+        ∙ ap (λ n. front_of split (round_order1 st r) (round_order2 st r) st.source n) (sym g.target_is)
+        ∙ (ap₂ (λ m n. record_bytes m n (front-found)) size1 size2 ∙ ap (record_bytes (study_size1 st) (study_size2 st)) (search-front st g.within r g.good))
       where
+        split : List Arc
+        split = split_arcs (length st.classes) st.entries
+
+        front_of : List Arc → List ℕ → List ℕ → ℕ → ℕ → List ℕ
+        front_of l o p m n = front_bytes (length o) (length p) (route_pairs (order_network l o p m n))
+
         front-found : List Pair
         front-found = front (length (round_order1 st r)) (length (round_order2 st r))
-            (route_pairs (order_network (split_arcs (length st.classes) st.entries) (round_order1 st r) (round_order2 st r) st.source st.target))
+            (route_pairs (order_network split (round_order1 st r) (round_order2 st r) st.source st.target))

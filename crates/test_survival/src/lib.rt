@@ -1,6 +1,7 @@
 // Tallies, their scores and reliability of eight searched rounds, against the rounds that removal
 // testing finds to hold and exact arithmetic on them.
 #![tactic(auto)]
+
 ghost use Rattle.std.specs.Prelude.{◌≤◌, ◌<◌};
 
 use answer::{Aged, Done, Rate, Rated, Scored};

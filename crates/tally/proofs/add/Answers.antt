@@ -8,11 +8,9 @@ use Rattle.tally.specs.Calls.{added}
 use Rattle.tally.proofs.Readies.{call-refused}
 use Rattle.tally.proofs.add.Goals as goal
 
-pub add_to-requires : goal.add_to-requires
-add_to-requires c = sym c.ready.ensures ∙ ap done c.in-Done.is
-
 pub returns-in-Refused : goal.returns-in-Refused
-returns-in-Refused c = let a = c.args in
-    let r = a.«record».now in
-    let t = a.tally.now in
-    let both = call-refused r t 24 (eqb (rounds t) max_rounds) (added r t) _ (sym c.ready.ensures ∙ ap done c.in-Refused.is) in record { answer = both.0; slice = both.1 }
+returns-in-Refused c =
+    let r = c.args.«record».now in
+    let t = c.args.tally.now in
+    let both = call-refused r t 24 (eqb (rounds t) max_rounds) (added r t) _ (sym c.ready.ensures ∙ ap done c.in-Refused.is) in
+    record { answer = both.0; slice = both.1 }

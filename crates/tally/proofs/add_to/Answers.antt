@@ -17,7 +17,8 @@ pub returns-then-tally-eq-FULL : goal.returns-then-tally-eq-FULL
 returns-then-tally-eq-FULL c =
     let r = c.args.«record».now in
     let t = c.args.tally.now in
-    let both = call-last r t 24 (eqb (rounds t) max_rounds) (added r t) c.requires (eq-eqb (rounds t) max_rounds c.if-tally-eq-FULL.true) in record { answer = both.0; slice = both.1 }
+    let both = call-last r t 24 (eqb (rounds t) max_rounds) (added r t) c.requires (eq-eqb (rounds t) max_rounds c.if-tally-eq-FULL.true) in
+    record { answer = both.0; slice = both.1 }
 
 pub change-requires : goal.change-requires
 change-requires c = can-change _ _ c.args.«record».now c.args.tally.now c.requires (omega arith) (omega arith) (λ l1 l2 h k y. omega arith)

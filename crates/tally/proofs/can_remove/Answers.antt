@@ -1,9 +1,7 @@
 -- `tally::can_remove` lends the cells to both tests.
 use mathlib.Core.Path.{ap₂, ◌∙◌}
 use mathlib.Core.Bool.{◌&&◌}
-use Prim.Native.Nat.{◌≤◌}
 use native.Mathlib.Omega.{arith}
-use lib.ListN.{length}
 use Rattle.laws.specs.Parts.{tail-part}
 use Rattle.soundness.specs.Tally.{head_words}
 use Rattle.tally.proofs.Readies.{ready-long, ready-fits, ready-cells}
@@ -11,14 +9,10 @@ use Rattle.tally.proofs.Edges.{removable-is}
 use Rattle.tally.proofs.can_remove.Goals as goal
 
 pub slice_bounds-edges_ready-count : goal.slice_bounds-edges_ready-count
-slice_bounds-edges_ready-count c =
-    let has-head : head_words ≤ length c.args.tally.now = ready-long c.args.«record».now c.args.tally.now c.requires in
-    has-head
+slice_bounds-edges_ready-count c = ready-long c.args.«record».now c.args.tally.now c.requires
 
 pub slice_bounds-edges_ready-start : goal.slice_bounds-edges_ready-start
-slice_bounds-edges_ready-start c =
-    let has-head : head_words ≤ length c.args.tally.now = ready-long c.args.«record».now c.args.tally.now c.requires in
-    has-head
+slice_bounds-edges_ready-start c = ready-long c.args.«record».now c.args.tally.now c.requires
 
 pub edges_ready-edges-requires : goal.edges_ready-edges-requires
 edges_ready-edges-requires c =
@@ -29,19 +23,13 @@ edges_ready-edges-requires c =
     rw (tail-part t head_words, h.0, h.1, e.1, e.2) (ready-cells r t c.requires)
 
 pub slice_bounds-top_ready-count : goal.slice_bounds-top_ready-count
-slice_bounds-top_ready-count c =
-    let has-head : head_words ≤ length c.args.tally.now = ready-long c.args.«record».now c.args.tally.now c.requires in
-    has-head
+slice_bounds-top_ready-count c = ready-long c.args.«record».now c.args.tally.now c.requires
 
 pub slice_bounds-top_ready-start : goal.slice_bounds-top_ready-start
-slice_bounds-top_ready-start c =
-    let has-head : head_words ≤ length c.args.tally.now = ready-long c.args.«record».now c.args.tally.now c.requires in
-    has-head
+slice_bounds-top_ready-start c = ready-long c.args.«record».now c.args.tally.now c.requires
 
 pub bounds-tally-2 : goal.bounds-tally-2
-bounds-tally-2 c =
-    let has-head : head_words ≤ length c.args.tally.now = ready-long c.args.«record».now c.args.tally.now c.requires in
-    omega (arith, has-head)
+bounds-tally-2 c = omega (arith, ready-long c.args.«record».now c.args.tally.now c.requires)
 
 pub top_ready-requires : goal.top_ready-requires
 top_ready-requires c =

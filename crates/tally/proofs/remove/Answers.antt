@@ -6,11 +6,9 @@ use Rattle.tally.specs.Calls.{removable, removed}
 use Rattle.tally.proofs.Readies.{call-refused}
 use Rattle.tally.proofs.remove.Goals as goal
 
-pub remove_from-requires : goal.remove_from-requires
-remove_from-requires c = sym c.ready.ensures ∙ ap done c.in-Done.is
-
 pub returns-in-Refused : goal.returns-in-Refused
-returns-in-Refused c = let a = c.args in
-    let r = a.«record».now in
-    let t = a.tally.now in
-    let both = call-refused r t 31 (not (removable r t)) (removed r t) _ (sym c.ready.ensures ∙ ap done c.in-Refused.is) in record { answer = both.0; slice = both.1 }
+returns-in-Refused c =
+    let r = c.args.«record».now in
+    let t = c.args.tally.now in
+    let both = call-refused r t 31 (not (removable r t)) (removed r t) _ (sym c.ready.ensures ∙ ap done c.in-Refused.is) in
+    record { answer = both.0; slice = both.1 }

@@ -15,7 +15,8 @@ pub returns-then-not-can_remove : goal.returns-then-not-can_remove
 returns-then-not-can_remove c =
     let r = c.args.«record».now in
     let t = c.args.tally.now in
-    let both = call-last r t 31 (not (removable r t)) (removed r t) c.requires (ap not (sym c.can_remove.ensures) ∙ (ap not c.if-not-can_remove.true)) in record { answer = both.0; slice = both.1 }
+    let both = call-last r t 31 (not (removable r t)) (removed r t) c.requires (ap not (sym c.can_remove.ensures) ∙ (ap not c.if-not-can_remove.true)) in
+    record { answer = both.0; slice = both.1 }
 
 pub change-requires : goal.change-requires
 change-requires c =

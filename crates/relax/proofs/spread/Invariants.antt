@@ -1,0 +1,17 @@
+-- `relax::spread` follows the chain of the node at work, in every network that the slices hold; an arc raises nothing or raises a label.
+use mathlib.Core.Path.{refl, sym, ◌∙◌}
+use Prim.Native.Nat.{◌+◌, ◌-◌, ◌*◌, ◌/◌, ◌≤◌, ◌<◌}
+use native.Mathlib.Omega.{arith}
+use lib.ListN.{length, get_or}
+use borrow.Author.Tests.{leb-true, leb-false}
+use borrow.Author.Rules.{rules}
+use Rattle.chains.specs.Steps.{max_links}
+use Rattle.relax.specs.Steps.{Graph, Ready}
+use Rattle.relax.proofs.Spreads.{Spreading, Turn, place, at-node, start_is, falls, node_in, mark-in, passed, again, space, grown-one, idle}
+use Rattle.relax.proofs.spread.Given as goal
+
+abbrev pub invariant-loop-i : goal.invariant-loop-i
+invariant-loop-i l = (f : Graph) → Ready f l.capacities l.links l.at l.initial.label l.initial.stack l.initial.wait → Spreading f l.capacities l.links (l.at.x.0 - 1) l.at.level.0 l.initial.label l.initial.stack l.initial.wait l.at.top l.label l.stack l.wait l.top l.at.node l.i
+
+abbrev pub decreases-loop-i : goal.decreases-loop-i
+decreases-loop-i l = l.i
