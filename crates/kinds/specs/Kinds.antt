@@ -2,17 +2,20 @@
 -- From a public function F of a crate C the checker makes modules that a definition may cite:
 --   Rattle.C.proofs.F.Kinds    `ps` and `r`: the kinds of F's parameters, in the order of the source, and of its result
 --   Rattle.C.proofs.F.Reads    F's contract: `Learnt`, all its `ensures`, what every caller is told; `Asked`, all its `requires`, what a caller must show
---   Rattle.C.proofs.F.Symbol   `routine`: F's code, with all that it calls, as the machine runs it
+--   Rattle.C.proofs.F.Symbol   `name`: F's name, under which the `library` below has F's code, as it has that of all that F calls
 -- A `Call` (runs/specs/Call.antt) of F is any that kept `Learnt`. Its arguments are a tuple in the order of the source (`.0`, `.1 .0`, `.1 .1 .0`): a number
--- is a number; a slice is a place in memory (`ptr`: a block and an offset), a name of the logic's (`name`) and a list (`now`: what it holds at the call).
+-- is a number; a slice is a place in memory (`ref_ptr`: a block and an offset) and a list (`now`: what it holds at the call), and one that the call may write
+-- has a name of the logic's (`ghost_name`).
 -- Names here: the call, then the parameter. `Lent` and `Left` are a slice that the call may write, before and after; `..After` is a slice that it may
 -- only read, after; `Result` is the answer in document 01's terms (answer/specs/Outcome.antt): values, or a number. `..Run` is the call's code with these
 -- arguments (runs/specs/Run.antt): a slice with its elements' type and its lifetime's number, a number with its width.
 use Rattle.std.specs.Prelude.{List, [], ◌∷◌, ℕ}
 use Rattle.std.specs.Int.{w32, w64}
 use Rattle.std.specs.Borrow.{Bor}
+use lib.Chars.{codes}
 use Rattle.runs.specs.Call.{Call, after}
 use Rattle.runs.specs.Arguments.{u8, u32, number, shared, mutable, value, part}
+use Rattle.runs.specs.Library.{Library, code_of}
 use Rattle.runs.specs.Run.{Run, run}
 use Rattle.answer.specs.Outcome.{Outcome, opened, done, written, aged, scored, rated}
 use Rattle.study.proofs.open_study.Kinds as open-kinds
@@ -61,6 +64,44 @@ use Rattle.convert.proofs.convert.Kinds as convert-kinds
 use Rattle.convert.proofs.convert.Reads as convert-reads
 use Rattle.convert.proofs.convert.Symbol as convert-symbol
 use Rattle.writer.specs.Writer.{Given, given}
+use Rattle.slices.proofs.Linked as slices-link
+use Rattle.orders.proofs.Linked as orders-link
+use Rattle.parts.proofs.Linked as parts-link
+use Rattle.sections.proofs.Linked as sections-link
+use Rattle.study.proofs.Linked as study-link
+use Rattle.answer.proofs.Linked as answer-link
+use Rattle.front.proofs.Linked as front-link
+use Rattle.record.proofs.Linked as record-link
+use Rattle.buffer.proofs.Linked as buffer-link
+use Rattle.chains.proofs.Linked as chains-link
+use Rattle.members.proofs.Linked as members-link
+use Rattle.relax.proofs.Linked as relax-link
+use Rattle.labels.proofs.Linked as labels-link
+use Rattle.sweep.proofs.Linked as sweep-link
+use Rattle.search.proofs.Linked as search-link
+use Rattle.compose.proofs.Linked as compose-link
+use Rattle.cells.proofs.Linked as cells-link
+use Rattle.soundness.proofs.Linked as soundness-link
+use Rattle.tally.proofs.Linked as tally-link
+use Rattle.weights.proofs.Linked as weights-link
+use Rattle.reliability.proofs.Linked as reliability-link
+use Rattle.writer.proofs.Linked as writer-link
+use Rattle.convert.proofs.Linked as convert-link
+
+-- THE LIBRARY: the crates of the calls and those below them, each with the table of its functions (proofs/Linked.antt there)
+abbrev pub library : Library
+library =
+    (codes "slices", slices-link.table) ∷ (codes "orders", orders-link.table) ∷
+    (codes "parts", parts-link.table) ∷ (codes "sections", sections-link.table) ∷
+    (codes "study", study-link.table) ∷ (codes "answer", answer-link.table) ∷ (codes "front", front-link.table) ∷
+    (codes "record", record-link.table) ∷ (codes "buffer", buffer-link.table) ∷
+    (codes "chains", chains-link.table) ∷ (codes "members", members-link.table) ∷
+    (codes "relax", relax-link.table) ∷ (codes "labels", labels-link.table) ∷ (codes "sweep", sweep-link.table) ∷
+    (codes "search", search-link.table) ∷ (codes "compose", compose-link.table) ∷
+    (codes "cells", cells-link.table) ∷ (codes "soundness", soundness-link.table) ∷
+    (codes "tally", tally-link.table) ∷ (codes "weights", weights-link.table) ∷
+    (codes "reliability", reliability-link.table) ∷ (codes "writer", writer-link.table) ∷
+    (codes "convert", convert-link.table) ∷ []
 
 -- ---- OPENING: study::open_study(file)
 abbrev pub OpenCall : Type 0
@@ -76,7 +117,7 @@ abbrev pub open_result : OpenCall → Outcome
 open_result c = opened c.result
 
 abbrev pub open_run : List ℕ → Run
-open_run f = run 1 (shared u8 0 tt f ∷ []) (value open-kinds.r) open-reads.Asked open-reads.Learnt open-symbol.routine
+open_run f = run 1 (shared u8 0 tt f ∷ []) (value open-kinds.r) open-reads.Asked open-reads.Learnt (code_of library open-symbol.name)
 
 -- ---- LOOKUP, the check: study::check_round(file, round)
 abbrev pub CheckCall : Type 0
@@ -95,7 +136,7 @@ abbrev pub check_result : CheckCall → Outcome
 check_result c = done c.result
 
 abbrev pub check_run : List ℕ → ℕ → Run
-check_run f r = run 1 (shared u8 0 tt f ∷ number w64 r ∷ []) (value check-kinds.r) check-reads.Asked check-reads.Learnt check-symbol.routine
+check_run f r = run 1 (shared u8 0 tt f ∷ number w64 r ∷ []) (value check-kinds.r) check-reads.Asked check-reads.Learnt (code_of library check-symbol.name)
 
 -- ---- LOOKUP, the part: study::round_bytes(file, round), and the bytes of the part that it hands back
 abbrev pub LookupCall : Type 0
@@ -121,7 +162,7 @@ abbrev pub lookup_result_slice : LookupCall → Bor (List ℕ)
 lookup_result_slice c = c.result
 
 abbrev pub lookup_run : List ℕ → ℕ → Run
-lookup_run f r = run 1 (shared u8 0 tt f ∷ number w64 r ∷ []) (part u8 0 tt) lookup-reads.Asked lookup-reads.Learnt lookup-symbol.routine
+lookup_run f r = run 1 (shared u8 0 tt f ∷ number w64 r ∷ []) (part u8 0 tt) lookup-reads.Asked lookup-reads.Learnt (code_of library lookup-symbol.name)
 
 -- ---- SEARCH: search::search(file, round, out)
 abbrev pub SearchCall : Type 0
@@ -148,7 +189,7 @@ search_result c = written c.result
 abbrev pub search_run : List ℕ → ℕ → List ℕ → Run
 search_run f r s =
     run 2 (shared u8 0 tt f ∷ number w64 r ∷ mutable u8 1 tt s ∷ [])
-    (value search-kinds.r) search-reads.Asked search-reads.Learnt search-symbol.routine
+    (value search-kinds.r) search-reads.Asked search-reads.Learnt (code_of library search-symbol.name)
 
 -- ---- SERIES (01: row): compose::series(left, right, out); the two records are First and Second
 abbrev pub SeriesCall : Type 0
@@ -178,7 +219,7 @@ series_result c = written c.result
 abbrev pub series_run : List ℕ → List ℕ → List ℕ → Run
 series_run y z s =
     run 3 (shared u8 0 tt y ∷ shared u8 1 tt z ∷ mutable u8 2 tt s ∷ [])
-    (value series-kinds.r) series-reads.Asked series-reads.Learnt series-symbol.routine
+    (value series-kinds.r) series-reads.Asked series-reads.Learnt (code_of library series-symbol.name)
 
 -- ---- PARALLEL (01: side): compose::parallel(left, right, out)
 abbrev pub ParallelCall : Type 0
@@ -208,7 +249,7 @@ parallel_result c = written c.result
 abbrev pub parallel_run : List ℕ → List ℕ → List ℕ → Run
 parallel_run y z s =
     run 3 (shared u8 0 tt y ∷ shared u8 1 tt z ∷ mutable u8 2 tt s ∷ [])
-    (value parallel-kinds.r) parallel-reads.Asked parallel-reads.Learnt parallel-symbol.routine
+    (value parallel-kinds.r) parallel-reads.Asked parallel-reads.Learnt (code_of library parallel-symbol.name)
 
 -- ---- NEW (01: fresh): tally::new(n1, n2, tally)
 abbrev pub NewCall : Type 0
@@ -230,7 +271,7 @@ abbrev pub new_result : NewCall → Outcome
 new_result c = done c.result
 
 abbrev pub new_run : ℕ → ℕ → List ℕ → Run
-new_run n1 n2 s = run 1 (number w32 n1 ∷ number w32 n2 ∷ mutable u32 0 tt s ∷ []) (value new-kinds.r) new-reads.Asked new-reads.Learnt new-symbol.routine
+new_run n1 n2 s = run 1 (number w32 n1 ∷ number w32 n2 ∷ mutable u32 0 tt s ∷ []) (value new-kinds.r) new-reads.Asked new-reads.Learnt (code_of library new-symbol.name)
 
 -- ---- ADD: tally::add(record, tally)
 abbrev pub AddCall : Type 0
@@ -252,7 +293,7 @@ abbrev pub add_result : AddCall → Outcome
 add_result c = done c.result
 
 abbrev pub add_run : List ℕ → List ℕ → Run
-add_run x t = run 2 (shared u8 0 tt x ∷ mutable u32 1 tt t ∷ []) (value add-kinds.r) add_reads.Asked add_reads.Learnt add-symbol.routine
+add_run x t = run 2 (shared u8 0 tt x ∷ mutable u32 1 tt t ∷ []) (value add-kinds.r) add_reads.Asked add_reads.Learnt (code_of library add-symbol.name)
 
 -- ---- REMOVE (02: take): tally::remove(record, tally)
 abbrev pub RemoveCall : Type 0
@@ -274,7 +315,7 @@ abbrev pub remove_result : RemoveCall → Outcome
 remove_result c = done c.result
 
 abbrev pub remove_run : List ℕ → List ℕ → Run
-remove_run x t = run 2 (shared u8 0 tt x ∷ mutable u32 1 tt t ∷ []) (value remove-kinds.r) remove-reads.Asked remove-reads.Learnt remove-symbol.routine
+remove_run x t = run 2 (shared u8 0 tt x ∷ mutable u32 1 tt t ∷ []) (value remove-kinds.r) remove-reads.Asked remove-reads.Learnt (code_of library remove-symbol.name)
 
 -- ---- SCORE: tally::score(tally)
 abbrev pub ScoreCall : Type 0
@@ -290,7 +331,7 @@ abbrev pub score_result : ScoreCall → Outcome
 score_result c = scored c.result
 
 abbrev pub score_run : List ℕ → Run
-score_run t = run 1 (shared u32 0 tt t ∷ []) (value score-kinds.r) score-reads.Asked score-reads.Learnt score-symbol.routine
+score_run t = run 1 (shared u32 0 tt t ∷ []) (value score-kinds.r) score-reads.Asked score-reads.Learnt (code_of library score-symbol.name)
 
 -- ---- AGEING: weights::ageing(age)
 abbrev pub AgeingCall : Type 0
@@ -303,7 +344,7 @@ abbrev pub ageing_result : AgeingCall → Outcome
 ageing_result c = aged c.result
 
 abbrev pub ageing_run : ℕ → Run
-ageing_run y = run 0 (number w64 y ∷ []) (value ageing-kinds.r) ageing-reads.Asked ageing-reads.Learnt ageing-symbol.routine
+ageing_run y = run 0 (number w64 y ∷ []) (value ageing-kinds.r) ageing-reads.Asked ageing-reads.Learnt (code_of library ageing-symbol.name)
 
 -- ---- WEIGHTS: weights::weights(n, p, out); n nodes of the chance p
 abbrev pub WeightsCall : Type 0
@@ -327,7 +368,7 @@ weights_result c = done c.result
 abbrev pub weights_run : ℕ → ℕ → List ℕ → Run
 weights_run n p s =
     run 1 (number w32 n ∷ number w32 p ∷ mutable u32 0 tt s ∷ [])
-    (value weights-kinds.r) weights-reads.Asked weights-reads.Learnt weights-symbol.routine
+    (value weights-kinds.r) weights-reads.Asked weights-reads.Learnt (code_of library weights-symbol.name)
 
 -- ---- RELIABILITY: reliability::reliability(tally, p1, p2)
 abbrev pub RateCall : Type 0
@@ -349,7 +390,7 @@ abbrev pub rate_result : RateCall → Outcome
 rate_result c = rated c.result
 
 abbrev pub rate_run : List ℕ → ℕ → ℕ → Run
-rate_run t p1 p2 = run 1 (shared u32 0 tt t ∷ number w32 p1 ∷ number w32 p2 ∷ []) (value rate-kinds.r) rate-reads.Asked rate-reads.Learnt rate-symbol.routine
+rate_run t p1 p2 = run 1 (shared u32 0 tt t ∷ number w32 p1 ∷ number w32 p2 ∷ []) (value rate-kinds.r) rate-reads.Asked rate-reads.Learnt (code_of library rate-symbol.name)
 
 -- ---- THE WRITER: writer::write_study(nodes, arcs, rounds, source, target, total, out); what it is given, as one record
 abbrev pub WriteCall : Type 0
@@ -375,7 +416,7 @@ write_run g s =
     run 4
     (shared u8 0 tt g.nodes ∷ shared u8 1 tt g.arcs ∷ shared u8 2 tt g.rounds
     ∷ number w64 g.source ∷ number w64 g.target ∷ number w64 g.total ∷ mutable u8 3 tt s ∷ [])
-    (value write-kinds.r) write-reads.Asked write-reads.Learnt write_symbol.routine
+    (value write-kinds.r) write-reads.Asked write-reads.Learnt (code_of library write_symbol.name)
 
 -- ---- THE CONVERTER: convert::convert(old, out)
 abbrev pub ConvertCall : Type 0
@@ -397,4 +438,4 @@ abbrev pub convert_result : ConvertCall → Outcome
 convert_result c = written c.result
 
 abbrev pub convert_run : List ℕ → List ℕ → Run
-convert_run f s = run 2 (shared u8 0 tt f ∷ mutable u8 1 tt s ∷ []) (value convert-kinds.r) convert-reads.Asked convert-reads.Learnt convert-symbol.routine
+convert_run f s = run 2 (shared u8 0 tt f ∷ mutable u8 1 tt s ∷ []) (value convert-kinds.r) convert-reads.Asked convert-reads.Learnt (code_of library convert-symbol.name)

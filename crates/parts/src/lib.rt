@@ -1,6 +1,7 @@
 // The tests of a study's parts that opening and writer share: numbers 2, 3, 5, 8, 32 and 6, and number
 // 11 over all rounds.
 #![tactic(auto)]
+
 ghost use Rattle.std.specs.Prelude.{◌≡◌, false, not, ◌&&◌, map, ◌+◌, ◌*◌, ◌≤◌, ◌<◌, length, take, drop};
 ghost use Rattle.limits.specs.Limits.{max_nodes, arc_size, arc_count, max_class, max_round_size, max_rounds};
 ghost use Rattle.laws.specs.Members.{all};

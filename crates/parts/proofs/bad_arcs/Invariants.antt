@@ -1,15 +1,13 @@
 -- `parts::bad_arcs`: what is found before entry i, and what the entries from i on say.
-use mathlib.Core.Path.{◌≡◌, refl, sym, ◌∙◌}
+use mathlib.Core.Path.{◌≡◌}
 use mathlib.Core.Bool.{◌||◌}
 use Prim.Native.Nat.{◌-◌, ◌≤◌}
-use native.Mathlib.Omega.{arith}
-use borrow.Author.Rules.{rules}
 use Rattle.limits.specs.Limits.{arc_count}
 use Rattle.laws.specs.Members.{any}
 use Rattle.parts.specs.Study.{entries_from}
 use Rattle.parts.specs.Tests.{bad_arcs}
 use Rattle.parts.specs.Steps.{arc_test}
-use Rattle.parts.proofs.Scans.{entries_at, entry_next, entry-end}
+use Rattle.parts.proofs.Scans.{entries_at}
 use Rattle.parts.proofs.bad_arcs.Given as goal
 
 abbrev pub invariant-loop-i : goal.invariant-loop-i

@@ -1,13 +1,7 @@
 -- `parts::bad_classes`: what is found before v, and what the node bytes from v on say.
-use mathlib.Core.Path.{◌≡◌, refl, sym, ◌∙◌}
-use mathlib.Core.Bool.{◌||◌}
-use Prim.Native.Nat.{◌-◌, ◌≤◌}
+use mathlib.Core.Path.{refl, sym, ◌∙◌}
 use native.Mathlib.Omega.{arith}
-use borrow.Author.Rules.{rules}
 use lib.Dec.{ltb}
-use lib.ListN.{drop, length}
-use Rattle.laws.specs.Members.{any}
-use Rattle.parts.specs.Tests.{bad_classes}
 use Rattle.parts.proofs.Scans.{any_next, any-end}
 use Rattle.parts.proofs.bad_classes.Goals as goal
 

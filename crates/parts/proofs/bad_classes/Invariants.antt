@@ -1,14 +1,11 @@
 -- `parts::bad_classes`: what is found before v, and what the node bytes from v on say.
-use mathlib.Core.Path.{◌≡◌, refl, sym, ◌∙◌}
+use mathlib.Core.Path.{◌≡◌}
 use mathlib.Core.Bool.{◌||◌}
 use Prim.Native.Nat.{◌-◌, ◌≤◌}
-use native.Mathlib.Omega.{arith}
-use borrow.Author.Rules.{rules}
 use lib.Dec.{ltb}
 use lib.ListN.{drop, length}
 use Rattle.laws.specs.Members.{any}
 use Rattle.parts.specs.Tests.{bad_classes}
-use Rattle.parts.proofs.Scans.{any_next, any-end}
 use Rattle.parts.proofs.bad_classes.Given as goal
 
 abbrev pub invariant-loop-v : goal.invariant-loop-v

@@ -1,16 +1,12 @@
 -- `parts::bad_orders`: the rounds before r are good, so those from r on decide.
 use mathlib.Core.Path.{◌≡◌, sym, ap, ◌∙◌}
-use mathlib.Core.Bool.{Bool, ◌&&◌}
-use mathlib.Core.List.{List}
-use Prim.Native.Nat.{ℕ, ◌+◌, ◌-◌, ◌*◌, ◌≤◌}
+use mathlib.Core.Bool.{◌&&◌}
+use Prim.Native.Nat.{◌+◌, ◌*◌}
 use native.Mathlib.Omega.{arith}
-use borrow.Author.Tests.{not-true, not-false}
-use borrow.Author.Rules.{rules}
-use lib.ListN.{length-take, take, drop, length}
+use lib.ListN.{length-take, drop, length}
 use Rattle.laws.specs.Sums.{product-most}
 use Rattle.limits.specs.Limits.{max_round_size, max_rounds}
 use Rattle.laws.specs.Members.{all}
-use Rattle.orders.specs.Order.{is_order_of}
 use Rattle.parts.specs.Study.{pieces}
 use Rattle.parts.proofs.Rounds.{good_from, good-first, good-next, good-end}
 use Rattle.parts.proofs.bad_orders.Invariants.{good}

@@ -1,18 +1,13 @@
 -- `parts::bad_orders`: the rounds before r are good, so those from r on decide.
-use mathlib.Core.Path.{◌≡◌, sym, ap, ◌∙◌}
+use mathlib.Core.Path.{◌≡◌}
 use mathlib.Core.Bool.{Bool, ◌&&◌}
 use mathlib.Core.List.{List}
-use Prim.Native.Nat.{ℕ, ◌+◌, ◌-◌, ◌*◌, ◌≤◌}
-use native.Mathlib.Omega.{arith}
-use borrow.Author.Tests.{not-true, not-false}
-use borrow.Author.Rules.{rules}
-use lib.ListN.{length-take, take, drop, length}
-use Rattle.laws.specs.Sums.{product-most}
-use Rattle.limits.specs.Limits.{max_round_size, max_rounds}
+use Prim.Native.Nat.{ℕ, ◌-◌, ◌≤◌}
+use lib.ListN.{take, drop}
 use Rattle.laws.specs.Members.{all}
 use Rattle.orders.specs.Order.{is_order_of}
 use Rattle.parts.specs.Study.{pieces}
-use Rattle.parts.proofs.Rounds.{good_from, good-first, good-next, good-end}
+use Rattle.parts.proofs.Rounds.{good_from}
 use Rattle.parts.proofs.bad_orders.Given as goal
 
 -- the test of a round

@@ -1,10 +1,6 @@
 -- `parts::good_blocks`: the entries before i are good and counted.
 use mathlib.Core.Path.{refl}
-use Prim.Native.Nat.{◌-◌, ◌≤◌}
 use native.Mathlib.Omega.{arith}
-use borrow.Author.Rules.{rules}
-use Rattle.limits.specs.Limits.{arc_count}
-use Rattle.parts.specs.Steps.{Looked}
 use Rattle.parts.proofs.Arcs.{looked-first}
 use Rattle.parts.proofs.good_blocks.Goals as goal
 

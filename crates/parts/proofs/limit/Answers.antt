@@ -1,5 +1,4 @@
 -- `parts::limit`: by whether the byte is a kind.
-use borrow.Author.Rules.{rules}
 use borrow.Author.Tests.{eq-eqb, ne_eqb}
 use Rattle.parts.specs.Steps.{kind_field}
 use Rattle.parts.proofs.limit.Goals as goal

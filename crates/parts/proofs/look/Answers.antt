@@ -1,15 +1,14 @@
 -- `parts::look`: no byte before j is bad where none was found, and those of classes 1 and 2 before j are counted.
 use mathlib.Core.Path.{◌≡◌, refl, ap, ◌∙◌}
-use mathlib.Core.Bool.{false, ◌||◌, ◌&&◌}
-use Prim.Native.Nat.{◌+◌, ◌-◌, ◌*◌, ◌≤◌}
+use mathlib.Core.Bool.{◌||◌, ◌&&◌}
+use Prim.Native.Nat.{◌+◌, ◌*◌}
 use native.Mathlib.Omega.{arith}
-use borrow.Author.Rules.{rules}
 use lib.Dec.{leb, eqb}
 use lib.ListN.{length, get_or}
 use Rattle.limits.specs.Limits.{arc_size}
 use Rattle.laws.specs.Sums.{sum_to, sum_more}
 use Rattle.parts.specs.Steps.{block_bytes, from_field}
-use Rattle.parts.proofs.Blocks.{class1_at, class2_at, NoneBad, none-next, block-added}
+use Rattle.parts.proofs.Blocks.{class1_at, class2_at, none-next, block-added}
 use Rattle.parts.proofs.look.Goals as goal
 
 pub loop-j-init : goal.loop-j-init
@@ -36,6 +35,9 @@ pub returns : goal.returns
 returns c = let a = c.args in
     let l = c.loop-j in
     let at = arc_size * a.i in
-    let e : l.j ≡ block_bytes = omega arith in record { few = (omega arith, omega arith); good = λ f. block-added a.n a.fields.now a.arcs.now a.i l.n1 l.n2 c.requires.fields c.requires.room (λ k h. l.invariant.3 f k (omega arith))
+    let e : l.j ≡ block_bytes = omega arith in record {
+      few = (omega arith, omega arith);
+      good = λ f. block-added a.n a.fields.now a.arcs.now a.i l.n1 l.n2 c.requires.fields c.requires.room (λ k h. l.invariant.3 f k (omega arith))
           (l.invariant.4 ∙ ap (λ j. sum_to j (class1_at a.fields.now a.arcs.now at)) e)
-          (l.invariant.5 ∙ ap (λ j. sum_to j (class2_at a.fields.now a.arcs.now at)) e) }
+          (l.invariant.5 ∙ ap (λ j. sum_to j (class2_at a.fields.now a.arcs.now at)) e);
+    }

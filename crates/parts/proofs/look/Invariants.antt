@@ -1,15 +1,10 @@
 -- `parts::look`: no byte before j is bad where none was found, and those of classes 1 and 2 before j are counted.
-use mathlib.Core.Path.{◌≡◌, refl, ap, ◌∙◌}
-use mathlib.Core.Bool.{false, ◌||◌, ◌&&◌}
-use Prim.Native.Nat.{◌+◌, ◌-◌, ◌*◌, ◌≤◌}
-use native.Mathlib.Omega.{arith}
-use borrow.Author.Rules.{rules}
-use lib.Dec.{leb, eqb}
-use lib.ListN.{length, get_or}
-use Rattle.limits.specs.Limits.{arc_size}
-use Rattle.laws.specs.Sums.{sum_to, sum_more}
-use Rattle.parts.specs.Steps.{block_bytes, from_field}
-use Rattle.parts.proofs.Blocks.{class1_at, class2_at, NoneBad, none-next, block-added}
+use mathlib.Core.Path.{◌≡◌}
+use mathlib.Core.Bool.{false}
+use Prim.Native.Nat.{◌-◌, ◌≤◌}
+use Rattle.laws.specs.Sums.{sum_to}
+use Rattle.parts.specs.Steps.{block_bytes}
+use Rattle.parts.proofs.Blocks.{class1_at, class2_at, NoneBad}
 use Rattle.parts.proofs.look.Given as goal
 
 abbrev pub invariant-loop-j : goal.invariant-loop-j

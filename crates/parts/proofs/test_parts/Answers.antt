@@ -4,7 +4,6 @@ use mathlib.Core.Bool.{false, ◌||◌, cond}
 use mathlib.Core.List.{[], ◌∷◌, map}
 use Prim.Native.Nat.{◌+◌}
 use native.Mathlib.Omega.{arith}
-use borrow.Author.Rules.{rules}
 use lib.Dec.{ltb}
 use lib.ListN.{length}
 use Rattle.limits.specs.Limits.{max_class}
@@ -24,7 +23,6 @@ overflow_add-n1 c =
     let found : let a = c.args in
     outcome (arc_tests (length a.nodes.now) (entries_from a.arcs.now)) (sizes_of (map entry_class (entries_from a.arcs.now))) ≡ success (c.in-Sizes.arcs1 ∷ c.in-Sizes.arcs2 ∷ []) = sym c.count_arcs.ensures ∙ ap counted c.in-Sizes.is in
     let a = c.args in
-    
     omega (arith, arcs1-few a.nodes.now a.arcs.now (not-5) _ _ (found), c.count.ensures.1)
 
 pub overflow_add-n2 : goal.overflow_add-n2
@@ -33,7 +31,6 @@ overflow_add-n2 c =
     let found : let a = c.args in
     outcome (arc_tests (length a.nodes.now) (entries_from a.arcs.now)) (sizes_of (map entry_class (entries_from a.arcs.now))) ≡ success (c.in-Sizes.arcs1 ∷ c.in-Sizes.arcs2 ∷ []) = sym c.count_arcs.ensures ∙ ap counted c.in-Sizes.is in
     let a = c.args in
-    
     omega (arith, arcs2-few a.nodes.now a.arcs.now (not-5) _ _ (found), c.count-in-Sizes.ensures.1)
 
 pub returns-then-n1-n2 : goal.returns-then-n1-n2
@@ -45,7 +42,6 @@ returns-then-n1-n2 c =
     let n1 = c.count.result + c.in-Sizes.arcs1 in
     let n2 = c.count-in-Sizes.result + c.in-Sizes.arcs2 in
     outcome (part_tests (length a.nodes.now) a.nodes.now a.arcs.now) (sizes_of (elements a.nodes.now (entries_from a.arcs.now))) ≡ cond (ltb max_class n1 || ltb max_class n2) (refused 6) (success (n1 ∷ n2 ∷ [])) = let a = c.args in
-    
     let fine = not-5 in
     let sizes = parts-sizes a.nodes.now a.arcs.now fine _ _ (found) _ _ c.count.ensures.0 c.count-in-Sizes.ensures.0 in
     parts_last a.nodes.now a.arcs.now fine _ _ (found) _ _ sizes in
@@ -66,7 +62,6 @@ returns-else-n1-n2 c =
     let n1 = c.count.result + c.in-Sizes.arcs1 in
     let n2 = c.count-in-Sizes.result + c.in-Sizes.arcs2 in
     outcome (part_tests (length a.nodes.now) a.nodes.now a.arcs.now) (sizes_of (elements a.nodes.now (entries_from a.arcs.now))) ≡ cond (ltb max_class n1 || ltb max_class n2) (refused 6) (success (n1 ∷ n2 ∷ [])) = let a = c.args in
-    
     let fine = not-5 in
     let sizes = parts-sizes a.nodes.now a.arcs.now fine _ _ (found) _ _ c.count.ensures.0 c.count-in-Sizes.ensures.0 in
     parts_last a.nodes.now a.arcs.now fine _ _ (found) _ _ sizes in
