@@ -1,5 +1,6 @@
 // The converter: an old study file, with arcs of two bytes and rounds of node numbers, in the new form.
 #![tactic(auto)]
+
 ghost use Rattle.std.specs.Prelude.{◌≡◌, [], ◌∷◌, ◌++◌, map, ◌+◌, ◌*◌, ◌/◌, ◌≤◌, length, get_or};
 ghost use Rattle.limits.specs.Limits.{max_nodes, arc_size, trailer_size};
 ghost use Rattle.answer.specs.Outcome.{written, done, outcome};

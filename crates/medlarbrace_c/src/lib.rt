@@ -2,6 +2,7 @@
 // the library `medlarbrace` answers, under the same promises. A crate is a library or an archive
 // for C, and `functions` speaks of the library.
 #![tactic(auto)]
+
 mod files;
 mod records;
 mod tallies;

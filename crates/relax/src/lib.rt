@@ -1,6 +1,7 @@
 // Labels relaxed along the arcs into a node. Two slices hold the network: `capacities` those of
 // class 1 of all nodes and then those of class 2, `links` the chains of arcs.
 #![tactic(auto)]
+
 ghost use Rattle.std.specs.Prelude.{◌≡◌, ◌-◌};
 ghost use Rattle.relax.specs.Steps.{Graph, moved, mark_at, growth, Work, Kept, Ready};
 

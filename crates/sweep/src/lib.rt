@@ -1,5 +1,6 @@
 // The search of a round: class 1 positions swept from the largest down, labels for class 2.
 #![tactic(auto)]
+
 ghost use Rattle.std.specs.Prelude.{◌≡◌, [], ◌∷◌, ◌++◌, ℕ, ◌≤◌, ◌<◌, length, get_or};
 ghost use Rattle.record.specs.Record.{record_size1, record_size2, listed, front_bytes, longest};
 ghost use Rattle.buffer.specs.Steps.{record_in, Puttable};

@@ -21,8 +21,7 @@ bounds-label-t c = let s = c.requires.network.1 in omega (arith, s.laid.t-in, s.
 pub loop-begin-init : goal.loop-begin-init
 loop-begin-init c = let b = c.args.begin in
     let caps = c.args.capacities.now in
-    let t = c.wide_two-t.result in
-    (
+    let t = c.wide_two-t.result in (
       λ f p.
           begins-at p.laid p.lent p.by_order p.within (c.empty-found.ensures ∙ ap₂ (λ a b. a ∷ b ∷ replicate (longest - 2) 0) p.sizes.0 p.sizes.1) c.requires.blank
           b.x.0 p.begins p.some b.node t (get_or caps (length caps / 2 + t) 0) p.enters c.wide_two-t.ensures refl,

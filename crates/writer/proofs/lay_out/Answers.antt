@@ -10,9 +10,7 @@ use Rattle.slices.specs.Bytes.{words_bytes}
 use Rattle.writer.proofs.lay_out.Goals as goal
 
 pub returns : goal.returns
-returns c = 
-    
-    
+returns c =
     let a = c.args in
     let d = a.out.now in
     let x = a.nodes.now in

@@ -37,7 +37,6 @@ pub returns : goal.returns
 returns c =
     let of : Given = let a = c.args in given a.nodes.now a.arcs.now a.rounds.now a.source a.target a.total in
     let passed : outcome (given_tests (of)) (0 ∷ []) ≡ success (0 ∷ []) = sym c.test_given.ensures ∙ ap done c.in_default.is in
-    
     let out = c.args.out.now in
     let both = fill-delivered (given_tests (of)) (study_bytes (of)) out (passed) refl
     (deliver-done (study_bytes (of)) out (omega (arith, bytes-length (of))) _ (sym (bytes-length (of))) (c.lay_out.ensures ∙ placed_first (study_bytes (of)) out)) in record { answer = both.0; slice = both.1 }
