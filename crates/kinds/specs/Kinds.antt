@@ -271,7 +271,9 @@ abbrev pub new_result : NewCall → Outcome
 new_result c = done c.result
 
 abbrev pub new_run : ℕ → ℕ → List ℕ → Run
-new_run n1 n2 s = run 1 (number w32 n1 ∷ number w32 n2 ∷ mutable u32 0 tt s ∷ []) (value new-kinds.r) new-reads.Asked new-reads.Learnt (code_of library new-symbol.name)
+new_run n1 n2 s =
+    run 1 (number w32 n1 ∷ number w32 n2 ∷ mutable u32 0 tt s ∷ [])
+    (value new-kinds.r) new-reads.Asked new-reads.Learnt (code_of library new-symbol.name)
 
 -- ---- ADD: tally::add(record, tally)
 abbrev pub AddCall : Type 0
@@ -315,7 +317,9 @@ abbrev pub remove_result : RemoveCall → Outcome
 remove_result c = done c.result
 
 abbrev pub remove_run : List ℕ → List ℕ → Run
-remove_run x t = run 2 (shared u8 0 tt x ∷ mutable u32 1 tt t ∷ []) (value remove-kinds.r) remove-reads.Asked remove-reads.Learnt (code_of library remove-symbol.name)
+remove_run x t =
+    run 2 (shared u8 0 tt x ∷ mutable u32 1 tt t ∷ [])
+    (value remove-kinds.r) remove-reads.Asked remove-reads.Learnt (code_of library remove-symbol.name)
 
 -- ---- SCORE: tally::score(tally)
 abbrev pub ScoreCall : Type 0
@@ -390,7 +394,9 @@ abbrev pub rate_result : RateCall → Outcome
 rate_result c = rated c.result
 
 abbrev pub rate_run : List ℕ → ℕ → ℕ → Run
-rate_run t p1 p2 = run 1 (shared u32 0 tt t ∷ number w32 p1 ∷ number w32 p2 ∷ []) (value rate-kinds.r) rate-reads.Asked rate-reads.Learnt (code_of library rate-symbol.name)
+rate_run t p1 p2 =
+    run 1 (shared u32 0 tt t ∷ number w32 p1 ∷ number w32 p2 ∷ [])
+    (value rate-kinds.r) rate-reads.Asked rate-reads.Learnt (code_of library rate-symbol.name)
 
 -- ---- THE WRITER: writer::write_study(nodes, arcs, rounds, source, target, total, out); what it is given, as one record
 abbrev pub WriteCall : Type 0
@@ -438,4 +444,6 @@ abbrev pub convert_result : ConvertCall → Outcome
 convert_result c = written c.result
 
 abbrev pub convert_run : List ℕ → List ℕ → Run
-convert_run f s = run 2 (shared u8 0 tt f ∷ mutable u8 1 tt s ∷ []) (value convert-kinds.r) convert-reads.Asked convert-reads.Learnt (code_of library convert-symbol.name)
+convert_run f s =
+    run 2 (shared u8 0 tt f ∷ mutable u8 1 tt s ∷ [])
+    (value convert-kinds.r) convert-reads.Asked convert-reads.Learnt (code_of library convert-symbol.name)
