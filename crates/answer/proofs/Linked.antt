@@ -5,6 +5,7 @@ use prog.Linked.{Tree, World, Holds, in_world}
 use prog.LinkedThreads.{HasT}
 use Rattle.answer.proofs.TheLink as the_link
 use Rattle.answer.proofs.deliver.Symbol as deliver
+use Rattle.answer.proofs.number.Symbol as number
 
 abbrev pub table : Tree
 table = the_link.table
@@ -14,3 +15,6 @@ Below = the_link.Below
 
 pub deliver-linked : (W : World) → Holds W "answer" table → Below W → HasT (in_world W) true deliver.code
 deliver-linked = the_link.linked-answer::deliver
+
+pub number-linked : (W : World) → Holds W "answer" table → Below W → HasT (in_world W) true number.code
+number-linked = the_link.linked-answer::number

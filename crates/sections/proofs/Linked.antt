@@ -8,6 +8,7 @@ use Rattle.sections.proofs.arc_bytes.Symbol as arc_bytes
 use Rattle.sections.proofs.node_bytes.Symbol as node_bytes
 use Rattle.sections.proofs.read_trailer.Symbol as read_trailer
 use Rattle.sections.proofs.round_at.Symbol as round_at
+use Rattle.sections.proofs.round_start.Symbol as round_start
 
 abbrev pub table : Tree
 table = the_link.table
@@ -26,3 +27,6 @@ read_trailer-linked = the_link.linked-sections::read_trailer
 
 pub round_at-linked : (W : World) → Holds W "sections" table → Below W → HasT (in_world W) true round_at.code
 round_at-linked = the_link.linked-sections::round_at
+
+pub round_start-linked : (W : World) → Holds W "sections" table → Below W → HasT (in_world W) true round_start.code
+round_start-linked = the_link.linked-sections::round_start

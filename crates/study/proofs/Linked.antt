@@ -6,6 +6,7 @@ use prog.LinkedThreads.{HasT}
 use Rattle.study.proofs.TheLink as the_link
 use Rattle.study.proofs.check_round.Symbol as check_round
 use Rattle.study.proofs.open_orders.Symbol as open_orders
+use Rattle.study.proofs.open_round.Symbol as open_round
 use Rattle.study.proofs.open_study.Symbol as open_study
 use Rattle.study.proofs.round_bytes.Symbol as round_bytes
 use Rattle.study.proofs.test_trailer.Symbol as test_trailer
@@ -21,6 +22,9 @@ check_round-linked = the_link.linked-study::check_round
 
 pub open_orders-linked : (W : World) → Holds W "study" table → Below W → HasT (in_world W) true open_orders.code
 open_orders-linked = the_link.linked-study::open_orders
+
+pub open_round-linked : (W : World) → Holds W "study" table → Below W → HasT (in_world W) true open_round.code
+open_round-linked = the_link.linked-study::open_round
 
 pub open_study-linked : (W : World) → Holds W "study" table → Below W → HasT (in_world W) true open_study.code
 open_study-linked = the_link.linked-study::open_study
