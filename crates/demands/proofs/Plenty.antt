@@ -44,8 +44,8 @@ pub searched-by : (f : List ℕ) (r : ℕ) (s : List ℕ) (n : ℕ) → search_a
 searched-by f r s n o =
     let m = search-made f r s in
     let c = m.0 in
-    let a : call.search_result c ≡ search_answer f r (length s) = rw (m.1, m.2, m.3) at c.kept.0 in
-    let l : call.search_left c ≡ search_out f r s = rw (m.1, m.2, m.3) at c.kept.1 in
+    let a : call.search_result c ≡ search_answer f r (length s) = c.kept.0 ∙ ap₂ (λ (g : List ℕ) (q : ℕ). search_answer g q (length (call.search_lent c))) m.1 m.2 ∙ ap (λ (i : List ℕ). search_answer f r (length i)) m.3 in
+    let l : call.search_left c ≡ search_out f r s = c.kept.1 ∙ ap₂ (λ (g : List ℕ) (q : ℕ). search_out g q (call.search_lent c)) m.1 m.2 ∙ ap (search_out f r) m.3 in
     record {
       made = c;
       file-is = m.1;
@@ -57,8 +57,8 @@ pub row_by : (y z s : List ℕ) (n : ℕ) → series_answer y z (length s) ≡ s
 row_by y z s n o =
     let m = row_made y z s in
     let c = m.0 in
-    let a : call.series_result c ≡ series_answer y z (length s) = rw (m.1, m.2, m.3) at c.kept.0 in
-    let l : call.series_left c ≡ series_out y z s = rw (m.1, m.2, m.3) at c.kept.1 in
+    let a : call.series_result c ≡ series_answer y z (length s) = c.kept.0 ∙ ap₂ (λ (g : List ℕ) (q : List ℕ). series_answer g q (length (call.series_lent c))) m.1 m.2 ∙ ap (λ (i : List ℕ). series_answer y z (length i)) m.3 in
+    let l : call.series_left c ≡ series_out y z s = c.kept.1 ∙ ap₂ (λ (g : List ℕ) (q : List ℕ). series_out g q (call.series_lent c)) m.1 m.2 ∙ ap (series_out y z) m.3 in
     record {
       made = c;
       first-is = m.1;
@@ -70,8 +70,8 @@ pub side-by : (y z s : List ℕ) (n : ℕ) → parallel_answer y z (length s) �
 side-by y z s n o =
     let m = side-made y z s in
     let c = m.0 in
-    let a : call.parallel_result c ≡ parallel_answer y z (length s) = rw (m.1, m.2, m.3) at c.kept.0 in
-    let l : call.parallel_left c ≡ parallel_out y z s = rw (m.1, m.2, m.3) at c.kept.1 in
+    let a : call.parallel_result c ≡ parallel_answer y z (length s) = c.kept.0 ∙ ap₂ (λ (g : List ℕ) (q : List ℕ). parallel_answer g q (length (call.parallel_lent c))) m.1 m.2 ∙ ap (λ (i : List ℕ). parallel_answer y z (length i)) m.3 in
+    let l : call.parallel_left c ≡ parallel_out y z s = c.kept.1 ∙ ap₂ (λ (g : List ℕ) (q : List ℕ). parallel_out g q (call.parallel_lent c)) m.1 m.2 ∙ ap (parallel_out y z) m.3 in
     record {
       made = c;
       first-is = m.1;

@@ -1,7 +1,6 @@
 -- The loop of `bytes_kept` goes over the bytes.
 use Prim.Native.Nat.{◌-◌, ◌≤◌}
 use lib.ListN.{length}
-use borrow.Author.Rules.{rules}
 use Rattle.test_refusals.proofs.bytes_kept.Given as goal
 
 abbrev pub invariant-loop-i : goal.invariant-loop-i

@@ -1,6 +1,5 @@
 -- The loop of `show` goes over the numbers up to 31.
 use Prim.Native.Nat.{◌-◌, ◌≤◌}
-use borrow.Author.Rules.{rules}
 use Rattle.test_refusals.proofs.show.Given as goal
 
 abbrev pub invariant-loop-k : goal.invariant-loop-k

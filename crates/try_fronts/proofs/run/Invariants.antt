@@ -1,6 +1,5 @@
 -- The loop of `run` makes 4000 calls.
 use Prim.Native.Nat.{◌-◌, ◌≤◌}
-use borrow.Author.Rules.{rules}
 use Rattle.try_fronts.proofs.run.Given as goal
 
 abbrev pub invariant-loop-i : goal.invariant-loop-i

@@ -1,7 +1,6 @@
 -- The loop of `fill`: each pair that is stored takes a value of x that is no longer to come, so there are at most n1 + 1 of them.
 use mathlib.Core.Path.{◌≡◌}
 use Prim.Native.Nat.{◌+◌, ◌≤◌}
-use borrow.Author.Rules.{rules}
 use lib.ListN.{length}
 use Rattle.try_fronts.proofs.cases.fill.Given as goal
 

@@ -1,6 +1,5 @@
 -- The loop of `cell` goes up to the length, two bytes a turn.
 use Prim.Native.Nat.{◌+◌, ◌-◌, ◌≤◌}
-use borrow.Author.Rules.{rules}
 use lib.ListN.{length}
 use Rattle.try_fronts.proofs.plain.cell.Given as goal
 

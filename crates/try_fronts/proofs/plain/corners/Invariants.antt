@@ -1,7 +1,6 @@
 -- The loop of `corners` goes along a row. The count stays at most 66 by its own test.
 use mathlib.Core.Path.{◌≡◌}
 use Prim.Native.Nat.{◌-◌, ◌≤◌}
-use borrow.Author.Rules.{rules}
 use lib.ListN.{length}
 use Rattle.try_fronts.proofs.plain.corners.Given as goal
 

@@ -1,6 +1,5 @@
 -- The loop of `is_record` goes over the pairs that the record says it has.
 use Prim.Native.Nat.{◌-◌, ◌≤◌}
-use borrow.Author.Rules.{rules}
 use Rattle.try_fronts.proofs.plain.is_record.Given as goal
 
 abbrev pub invariant-loop-i : goal.invariant-loop-i

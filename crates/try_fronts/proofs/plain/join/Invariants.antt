@@ -1,7 +1,6 @@
 -- The loop of `join` goes down the rows. The count stays at most 66 by what `corners` ensures.
 use mathlib.Core.Path.{◌≡◌}
 use Prim.Native.Nat.{◌≤◌}
-use borrow.Author.Rules.{rules}
 use lib.ListN.{length}
 use Rattle.try_fronts.proofs.plain.join.Given as goal
 
