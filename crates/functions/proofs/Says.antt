@@ -4,10 +4,11 @@ use mathlib.Core.List.{List, [], ◌∷◌}
 use Prim.Native.Nat.{ℕ}
 use lib.ListN.{length, get_or}
 use mir.Syntax.{w32}
-use mir.Val.{Val, vunit, vbool, vint, vfloat, vptr, vstruct}
-use prog.Routine.{any_name}
+use mir.Val.{Val, vunit, vbool, vint, vfloat, vptr, vstruct, vcode}
+use mir.Syntax.{Callee}
+use prog.Routine.{Routine, any_callee}
 use contract.Running.{tables_of}
-use borrow.Fn.World.{w₀}
+use borrow.Fn.World.{World}
 use native.Mathlib.Omega.{arith}
 use Rattle.answer.specs.Outcome.{Outcome, success, refused, filled}
 use Rattle.answer.proofs.Outcomes.{outcome-never}
@@ -25,8 +26,10 @@ use Rattle.reliability.specs.Calls.{rate_answer}
 use Rattle.medlarbrace.specs.Interface.{value_left, header_tests, header_answer, place_values, place_answer}
 use Rattle.medlarbrace.proofs.Opened.{round-placed}
 use Rattle.runs.specs.Arguments.{u8, u32, u64, Block, block, lent}
+use Rattle.runs.specs.Library.{code_of}
 use Rattle.runs.specs.Run.{at, Held, Run, AlwaysEnds}
 use Rattle.runs.proofs.General.{always, told}
+use Rattle.runs.proofs.Library.{holding, wired}
 use Rattle.kinds.specs.Kinds as call
 use Rattle.medlarbrace.proofs.files.medlarbrace_open.Reads as opening-reads
 use Rattle.medlarbrace.proofs.files.medlarbrace_open.Met as opening-met
@@ -70,7 +73,19 @@ use Rattle.medlarbrace.proofs.files.medlarbrace_write.Symbol as writer-symbol
 use Rattle.medlarbrace.proofs.files.medlarbrace_convert.Reads as converter-reads
 use Rattle.medlarbrace.proofs.files.medlarbrace_convert.Met as converter-met
 use Rattle.medlarbrace.proofs.files.medlarbrace_convert.Symbol as converter-symbol
-use Rattle.functions.specs.Functions.{open_function, round_function, search_function, series_function, parallel_function, new_function, add_function, remove_function, score_function, ageing_function, weights_function, reliability_function, write_function, convert_function, Says, KeepsUnless0, NeverReturns, EveryFunction}
+use Rattle.functions.specs.Functions.{library, open_function, round_function, search_function, series_function, parallel_function, new_function, add_function, remove_function, score_function, ageing_function, weights_function, reliability_function, write_function, convert_function, Says, KeepsUnless0, NeverReturns, EveryFunction}
+use Rattle.functions.proofs.Linked.{Tables, opening-linked, lookup-linked, search-linked, series-linked, parallel-linked, new-linked, add-linked, remove-linked, score-linked, ageing-linked, weights-linked, reliability-linked, writer-linked, converter-linked}
+
+-- the machine that holds the library
+abbrev machine : World
+machine = holding library
+
+abbrev code : Callee → Routine
+code = code_of library
+
+-- which has the table of each crate
+tables : Tables library
+tables = record { has-answer = refl; has-front = refl; has-slices = refl; has-record = refl; has-buffer = refl; has-compose = refl; has-orders = refl; has-parts = refl; has-sections = refl; has-study = refl; has-writer = refl; has-convert = refl; has-soundness = refl; has-weights = refl; has-reliability = refl; has-chains = refl; has-members = refl; has-relax = refl; has-labels = refl; has-sweep = refl; has-search = refl; has-cells = refl; has-tally = refl; has-medlarbrace = refl }
 
 -- the machine's value is the number that was returned
 returned : {v : Val} {n m : ℕ} → v ∷ [] ≡ vint w32 n ∷ [] → n ≡ m → v ≡ vint w32 m
@@ -93,6 +108,7 @@ number_of (vbool b) = 0
 number_of (vfloat w x) = 0
 number_of (vptr b i) = 0
 number_of (vstruct vs) = 0
+number_of (vcode c) = 0
 
 never : (c : Run) (n : ℕ) (a : Outcome) (blocks : List Block) → (0 ≡ n → ⊥) → Says c a blocks → (a ≡ refused n → ⊥) → NeverReturns n c
 unfolding number_of
@@ -103,7 +119,7 @@ never c n (refused m) blocks other says h others e q = h (ap (λ v. refused (num
 opening-ends : (f header : List ℕ) → AlwaysEnds (open_function f header)
 unfolding tables_of
 opening-ends f header =
-    always (open_function f header) (opening-reads.known w₀ (λ i. opening-symbol.routine) any_name opening-symbol.routine refl (opening-met.met w₀.𝓤 w₀.𝓛 w₀.𝓜 w₀.𝓡)) (λ κs. tt) (λ b κs γs. tt)
+    always (open_function f header) (opening-reads.known machine (λ i. code opening-symbol.name) any_callee (code opening-symbol.name) refl (opening-met.met machine.𝓤 machine.𝓛 machine.𝓜 machine.𝓡 (wired library opening-symbol.code (opening-linked library tables)))) (λ κs. tt) (λ b κs γs. tt)
 
 abbrev opening-left : List ℕ → List ℕ → Outcome → List Block
 opening-left f header a = block u8 f ∷ block u32 (filled a (open_values f) header) ∷ []
@@ -117,7 +133,7 @@ opening-said f header others e =
 lookup-ends : (f : List ℕ) (r start count : ℕ) → AlwaysEnds (round_function f r start count)
 unfolding tables_of
 lookup-ends f r start count =
-    always (round_function f r start count) (lookup-reads.known w₀ (λ i. lookup-symbol.routine) any_name lookup-symbol.routine refl (lookup-met.met w₀.𝓤 w₀.𝓛 w₀.𝓜 w₀.𝓡)) (λ κs. tt) (λ b κs γs. tt)
+    always (round_function f r start count) (lookup-reads.known machine (λ i. code lookup-symbol.name) any_callee (code lookup-symbol.name) refl (lookup-met.met machine.𝓤 machine.𝓛 machine.𝓜 machine.𝓡 (wired library lookup-symbol.code (lookup-linked library tables)))) (λ κs. tt) (λ b κs γs. tt)
 
 abbrev lookup-left : List ℕ → ℕ → ℕ → ℕ → Outcome → List Block
 lookup-left f r start count a = block u8 f ∷ block u64 (value_left 0 a start ∷ []) ∷ block u64 (value_left 1 a count ∷ []) ∷ []
@@ -131,7 +147,7 @@ lookup-said f r start count others e =
 search-ends : (f : List ℕ) (r : ℕ) (out : List ℕ) (k : ℕ) → AlwaysEnds (search_function f r out k)
 unfolding tables_of
 search-ends f r out k =
-    always (search_function f r out k) (search-reads.known w₀ (λ i. search-symbol.routine) any_name search-symbol.routine refl (search-met.met w₀.𝓤 w₀.𝓛 w₀.𝓜 w₀.𝓡)) (λ κs. tt) (λ b κs γs. tt)
+    always (search_function f r out k) (search-reads.known machine (λ i. code search-symbol.name) any_callee (code search-symbol.name) refl (search-met.met machine.𝓤 machine.𝓛 machine.𝓜 machine.𝓡 (wired library search-symbol.code (search-linked library tables)))) (λ κs. tt) (λ b κs γs. tt)
 
 abbrev pub search-left : List ℕ → ℕ → List ℕ → Outcome → List Block
 search-left f k s a = block u8 f ∷ block u8 s ∷ block u64 (value_left 0 a k ∷ []) ∷ []
@@ -145,7 +161,7 @@ search-said f r out k others e =
 series-ends : (y z out : List ℕ) (k : ℕ) → AlwaysEnds (series_function y z out k)
 unfolding tables_of
 series-ends y z out k =
-    always (series_function y z out k) (series-reads.known w₀ (λ i. series-symbol.routine) any_name series-symbol.routine refl (series-met.met w₀.𝓤 w₀.𝓛 w₀.𝓜 w₀.𝓡)) (λ κs. tt) (λ b κs γs. tt)
+    always (series_function y z out k) (series-reads.known machine (λ i. code series-symbol.name) any_callee (code series-symbol.name) refl (series-met.met machine.𝓤 machine.𝓛 machine.𝓜 machine.𝓡 (wired library series-symbol.code (series-linked library tables)))) (λ κs. tt) (λ b κs γs. tt)
 
 abbrev series-left : List ℕ → List ℕ → ℕ → List ℕ → Outcome → List Block
 series-left y z k s a = block u8 y ∷ block u8 z ∷ block u8 s ∷ block u64 (value_left 0 a k ∷ []) ∷ []
@@ -159,7 +175,7 @@ series-said y z out k others e =
 parallel-ends : (y z out : List ℕ) (k : ℕ) → AlwaysEnds (parallel_function y z out k)
 unfolding tables_of
 parallel-ends y z out k =
-    always (parallel_function y z out k) (parallel-reads.known w₀ (λ i. parallel-symbol.routine) any_name parallel-symbol.routine refl (parallel-met.met w₀.𝓤 w₀.𝓛 w₀.𝓜 w₀.𝓡)) (λ κs. tt) (λ b κs γs. tt)
+    always (parallel_function y z out k) (parallel-reads.known machine (λ i. code parallel-symbol.name) any_callee (code parallel-symbol.name) refl (parallel-met.met machine.𝓤 machine.𝓛 machine.𝓜 machine.𝓡 (wired library parallel-symbol.code (parallel-linked library tables)))) (λ κs. tt) (λ b κs γs. tt)
 
 parallel-said : (y z out : List ℕ) (k : ℕ) → let a = parallel_answer y z (length out) in Says (parallel_function y z out k) a (series-left y z k (filled a (parallel_bytes y z) out) a)
 parallel-said y z out k others e =
@@ -170,7 +186,7 @@ parallel-said y z out k others e =
 new-ends : (n1 n2 : ℕ) (t : List ℕ) → AlwaysEnds (new_function n1 n2 t)
 unfolding tables_of
 new-ends n1 n2 t =
-    always (new_function n1 n2 t) (new-reads.known w₀ (λ i. new-symbol.routine) any_name new-symbol.routine refl (new-met.met w₀.𝓤 w₀.𝓛 w₀.𝓜 w₀.𝓡)) (λ κs. tt) (λ b κs γs. tt)
+    always (new_function n1 n2 t) (new-reads.known machine (λ i. code new-symbol.name) any_callee (code new-symbol.name) refl (new-met.met machine.𝓤 machine.𝓛 machine.𝓜 machine.𝓡 (wired library new-symbol.code (new-linked library tables)))) (λ κs. tt) (λ b κs γs. tt)
 
 abbrev new-left : List ℕ → Outcome → List Block
 new-left s a = block u32 s ∷ []
@@ -184,7 +200,7 @@ new-said n1 n2 t others e =
 add-ends : (x t : List ℕ) → AlwaysEnds (add_function x t)
 unfolding tables_of
 add-ends x t =
-    always (add_function x t) (add_reads.known w₀ (λ i. add-symbol.routine) any_name add-symbol.routine refl (add-met.met w₀.𝓤 w₀.𝓛 w₀.𝓜 w₀.𝓡)) (λ κs. tt) (λ b κs γs. tt)
+    always (add_function x t) (add_reads.known machine (λ i. code add-symbol.name) any_callee (code add-symbol.name) refl (add-met.met machine.𝓤 machine.𝓛 machine.𝓜 machine.𝓡 (wired library add-symbol.code (add-linked library tables)))) (λ κs. tt) (λ b κs γs. tt)
 
 abbrev add_left : List ℕ → List ℕ → Outcome → List Block
 add_left x s a = block u8 x ∷ block u32 s ∷ []
@@ -198,7 +214,7 @@ add-said x t others e =
 remove-ends : (x t : List ℕ) → AlwaysEnds (remove_function x t)
 unfolding tables_of
 remove-ends x t =
-    always (remove_function x t) (remove-reads.known w₀ (λ i. remove-symbol.routine) any_name remove-symbol.routine refl (remove-met.met w₀.𝓤 w₀.𝓛 w₀.𝓜 w₀.𝓡)) (λ κs. tt) (λ b κs γs. tt)
+    always (remove_function x t) (remove-reads.known machine (λ i. code remove-symbol.name) any_callee (code remove-symbol.name) refl (remove-met.met machine.𝓤 machine.𝓛 machine.𝓜 machine.𝓡 (wired library remove-symbol.code (remove-linked library tables)))) (λ κs. tt) (λ b κs γs. tt)
 
 remove-said : (x t : List ℕ) → let a = remove_answer x t in Says (remove_function x t) a (add_left x (filled a (removed x t) t) a)
 remove-said x t others e =
@@ -209,7 +225,7 @@ remove-said x t others e =
 score-ends : (t : List ℕ) (s : ℕ) → AlwaysEnds (score_function t s)
 unfolding tables_of
 score-ends t s =
-    always (score_function t s) (score-reads.known w₀ (λ i. score-symbol.routine) any_name score-symbol.routine refl (score-met.met w₀.𝓤 w₀.𝓛 w₀.𝓜 w₀.𝓡)) (λ κs. tt) (λ b κs γs. tt)
+    always (score_function t s) (score-reads.known machine (λ i. code score-symbol.name) any_callee (code score-symbol.name) refl (score-met.met machine.𝓤 machine.𝓛 machine.𝓜 machine.𝓡 (wired library score-symbol.code (score-linked library tables)))) (λ κs. tt) (λ b κs γs. tt)
 
 abbrev score-left : List ℕ → ℕ → Outcome → List Block
 score-left t s a = block u32 t ∷ block u32 (value_left 0 a s ∷ []) ∷ []
@@ -223,7 +239,7 @@ score-said t s others e =
 ageing-ends : (y chance : ℕ) → AlwaysEnds (ageing_function y chance)
 unfolding tables_of
 ageing-ends y chance =
-    always (ageing_function y chance) (ageing-reads.known w₀ (λ i. ageing-symbol.routine) any_name ageing-symbol.routine refl (ageing-met.met w₀.𝓤 w₀.𝓛 w₀.𝓜 w₀.𝓡)) (λ κs. tt) (λ b κs γs. tt)
+    always (ageing_function y chance) (ageing-reads.known machine (λ i. code ageing-symbol.name) any_callee (code ageing-symbol.name) refl (ageing-met.met machine.𝓤 machine.𝓛 machine.𝓜 machine.𝓡 (wired library ageing-symbol.code (ageing-linked library tables)))) (λ κs. tt) (λ b κs γs. tt)
 
 abbrev ageing-left : ℕ → ℕ → Outcome → List Block
 ageing-left y chance a = block u32 (value_left 0 a chance ∷ []) ∷ []
@@ -237,7 +253,7 @@ ageing-said y chance others e =
 weights-ends : (n p : ℕ) (out : List ℕ) → AlwaysEnds (weights_function n p out)
 unfolding tables_of
 weights-ends n p out =
-    always (weights_function n p out) (weights-reads.known w₀ (λ i. weights-symbol.routine) any_name weights-symbol.routine refl (weights-met.met w₀.𝓤 w₀.𝓛 w₀.𝓜 w₀.𝓡)) (λ κs. tt) (λ b κs γs. tt)
+    always (weights_function n p out) (weights-reads.known machine (λ i. code weights-symbol.name) any_callee (code weights-symbol.name) refl (weights-met.met machine.𝓤 machine.𝓛 machine.𝓜 machine.𝓡 (wired library weights-symbol.code (weights-linked library tables)))) (λ κs. tt) (λ b κs γs. tt)
 
 weights-said : (n p : ℕ) (out : List ℕ) → let a = weights_answer n p (length out) in Says (weights_function n p out) a (new-left (filled a (weights p n) out) a)
 weights-said n p out others e =
@@ -248,7 +264,7 @@ weights-said n p out others e =
 reliability-ends : (t : List ℕ) (p1 p2 s m r : ℕ) → AlwaysEnds (reliability_function t p1 p2 s m r)
 unfolding tables_of
 reliability-ends t p1 p2 s m r =
-    always (reliability_function t p1 p2 s m r) (reliability-reads.known w₀ (λ i. reliability-symbol.routine) any_name reliability-symbol.routine refl (reliability-met.met w₀.𝓤 w₀.𝓛 w₀.𝓜 w₀.𝓡)) (λ κs. tt) (λ b κs γs. tt)
+    always (reliability_function t p1 p2 s m r) (reliability-reads.known machine (λ i. code reliability-symbol.name) any_callee (code reliability-symbol.name) refl (reliability-met.met machine.𝓤 machine.𝓛 machine.𝓜 machine.𝓡 (wired library reliability-symbol.code (reliability-linked library tables)))) (λ κs. tt) (λ b κs γs. tt)
 
 abbrev reliability-left : List ℕ → ℕ → ℕ → ℕ → ℕ → ℕ → Outcome → List Block
 reliability-left t p1 p2 s m r a = block u32 t ∷ block u64 (value_left 0 a s ∷ []) ∷ block u64 (value_left 1 a m ∷ []) ∷ block u64 (value_left 2 a r ∷ []) ∷ []
@@ -262,7 +278,7 @@ reliability-said t p1 p2 s m r others e =
 writer-ends : (g : Given) (out : List ℕ) (k : ℕ) → AlwaysEnds (write_function g out k)
 unfolding tables_of
 writer-ends g out k =
-    always (write_function g out k) (writer-reads.known w₀ (λ i. writer-symbol.routine) any_name writer-symbol.routine refl (writer-met.met w₀.𝓤 w₀.𝓛 w₀.𝓜 w₀.𝓡)) (λ κs. tt) (λ b κs γs. tt)
+    always (write_function g out k) (writer-reads.known machine (λ i. code writer-symbol.name) any_callee (code writer-symbol.name) refl (writer-met.met machine.𝓤 machine.𝓛 machine.𝓜 machine.𝓡 (wired library writer-symbol.code (writer-linked library tables)))) (λ κs. tt) (λ b κs γs. tt)
 
 abbrev writer-left : Given → ℕ → List ℕ → Outcome → List Block
 writer-left g k s a = block u8 g.nodes ∷ block u8 g.arcs ∷ block u8 g.rounds ∷ block u8 s ∷ block u64 (value_left 0 a k ∷ []) ∷ []
@@ -276,7 +292,7 @@ writer-said g out k others e =
 converter-ends : (f out : List ℕ) (k : ℕ) → AlwaysEnds (convert_function f out k)
 unfolding tables_of
 converter-ends f out k =
-    always (convert_function f out k) (converter-reads.known w₀ (λ i. converter-symbol.routine) any_name converter-symbol.routine refl (converter-met.met w₀.𝓤 w₀.𝓛 w₀.𝓜 w₀.𝓡)) (λ κs. tt) (λ b κs γs. tt)
+    always (convert_function f out k) (converter-reads.known machine (λ i. code converter-symbol.name) any_callee (code converter-symbol.name) refl (converter-met.met machine.𝓤 machine.𝓛 machine.𝓜 machine.𝓡 (wired library converter-symbol.code (converter-linked library tables)))) (λ κs. tt) (λ b κs γs. tt)
 
 converter-said : (f out : List ℕ) (k : ℕ) → let a = convert_answer f (length out) in Says (convert_function f out k) a (search-left f k (filled a (convert_bytes f) out) a)
 converter-said f out k others e =

@@ -2,6 +2,7 @@
 -- machine can hold; it returns 0 or the number of a refusal, what the call of document 01 with the same arguments answers (demands/specs/Demands.antt has what
 -- is known of that call), and what it was lent then holds what that call left; where it returns another number than 0, every lent block is as it was.
 use Rattle.std.specs.Prelude.{◌≡◌, List, [], ◌∷◌, ℕ, ◌+◌, ◌≤◌, length}
+use lib.Chars.{codes}
 use mir.Val.{vint}
 use Rattle.std.specs.Int.{w32, w64}
 use Rattle.answer.specs.Outcome.{Outcome, success}
@@ -9,6 +10,7 @@ use Rattle.slices.specs.Bytes.{part_at}
 use Rattle.writer.specs.Writer.{Given}
 use Rattle.medlarbrace.specs.Interface.{code, value_left, header_answer, header_out, place_answer}
 use Rattle.runs.specs.Arguments.{u8, u32, u64, Block, block, number, shared, mutable, place, value, lent}
+use Rattle.runs.specs.Library.{Library, code_of}
 use Rattle.runs.specs.Run.{at, Held, Run, run, Ends, AlwaysEnds}
 use Rattle.kinds.specs.Kinds as call
 use Rattle.medlarbrace.proofs.files.medlarbrace_open.Kinds as opening-kinds
@@ -53,69 +55,115 @@ use Rattle.medlarbrace.proofs.files.medlarbrace_write.Symbol as writer-symbol
 use Rattle.medlarbrace.proofs.files.medlarbrace_convert.Kinds as converter-kinds
 use Rattle.medlarbrace.proofs.files.medlarbrace_convert.Reads as converter-reads
 use Rattle.medlarbrace.proofs.files.medlarbrace_convert.Symbol as converter-symbol
+use Rattle.answer.proofs.Linked as answer-link
+use Rattle.front.proofs.Linked as front-link
+use Rattle.slices.proofs.Linked as slices-link
+use Rattle.record.proofs.Linked as record-link
+use Rattle.buffer.proofs.Linked as buffer-link
+use Rattle.compose.proofs.Linked as compose-link
+use Rattle.orders.proofs.Linked as orders-link
+use Rattle.parts.proofs.Linked as parts-link
+use Rattle.sections.proofs.Linked as sections-link
+use Rattle.study.proofs.Linked as study-link
+use Rattle.writer.proofs.Linked as writer-link
+use Rattle.convert.proofs.Linked as convert-link
+use Rattle.soundness.proofs.Linked as soundness-link
+use Rattle.weights.proofs.Linked as weights-link
+use Rattle.reliability.proofs.Linked as reliability-link
+use Rattle.chains.proofs.Linked as chains-link
+use Rattle.members.proofs.Linked as members-link
+use Rattle.relax.proofs.Linked as relax-link
+use Rattle.labels.proofs.Linked as labels-link
+use Rattle.sweep.proofs.Linked as sweep-link
+use Rattle.search.proofs.Linked as search-link
+use Rattle.cells.proofs.Linked as cells-link
+use Rattle.tally.proofs.Linked as tally-link
+use Rattle.medlarbrace.proofs.Linked as medlarbrace-link
+
+-- THE LIBRARY: the crates of the functions and those below them, each with the table of its functions (proofs/Linked.antt there)
+abbrev pub library : Library
+library =
+    (codes "answer", answer-link.table) ∷ (codes "front", front-link.table) ∷ (codes "slices", slices-link.table) ∷
+    (codes "record", record-link.table) ∷ (codes "buffer", buffer-link.table) ∷
+    (codes "compose", compose-link.table) ∷ (codes "orders", orders-link.table) ∷ (codes "parts", parts-link.table) ∷
+    (codes "sections", sections-link.table) ∷ (codes "study", study-link.table) ∷
+    (codes "writer", writer-link.table) ∷ (codes "convert", convert-link.table) ∷
+    (codes "soundness", soundness-link.table) ∷ (codes "weights", weights-link.table) ∷
+    (codes "reliability", reliability-link.table) ∷ (codes "chains", chains-link.table) ∷
+    (codes "members", members-link.table) ∷ (codes "relax", relax-link.table) ∷ (codes "labels", labels-link.table) ∷
+    (codes "sweep", sweep-link.table) ∷ (codes "search", search-link.table) ∷ (codes "cells", cells-link.table) ∷
+    (codes "tally", tally-link.table) ∷ (codes "medlarbrace", medlarbrace-link.table) ∷ []
 
 -- ---- THE FUNCTIONS with their arguments; k is what `written` leads to at the call
 -- medlarbrace_open(file, header)
 abbrev pub open_function : List ℕ → List ℕ → Run
 open_function f header =
     run 2 (shared u8 0 tt f ∷ mutable u32 1 tt header ∷ [])
-    (value opening-kinds.r) opening-reads.Asked opening-reads.Learnt opening-symbol.routine
+    (value opening-kinds.r) opening-reads.Asked opening-reads.Learnt (code_of library opening-symbol.name)
 
 -- medlarbrace_round(file, round, start, count)
 abbrev pub round_function : List ℕ → ℕ → ℕ → ℕ → Run
 round_function f r start count =
     run 3 (shared u8 0 tt f ∷ number w64 r ∷ place u64 1 tt start ∷ place u64 2 tt count ∷ [])
-    (value lookup-kinds.r) lookup-reads.Asked lookup-reads.Learnt lookup-symbol.routine
+    (value lookup-kinds.r) lookup-reads.Asked lookup-reads.Learnt (code_of library lookup-symbol.name)
 
 -- medlarbrace_search(file, round, out, written)
 abbrev pub search_function : List ℕ → ℕ → List ℕ → ℕ → Run
 search_function f r out k =
     run 3 (shared u8 0 tt f ∷ number w64 r ∷ mutable u8 1 tt out ∷ place u64 2 tt k ∷ [])
-    (value search-kinds.r) search-reads.Asked search-reads.Learnt search-symbol.routine
+    (value search-kinds.r) search-reads.Asked search-reads.Learnt (code_of library search-symbol.name)
 
 -- medlarbrace_series(left, right, out, written)
 abbrev pub series_function : List ℕ → List ℕ → List ℕ → ℕ → Run
 series_function y z out k =
     run 4 (shared u8 0 tt y ∷ shared u8 1 tt z ∷ mutable u8 2 tt out ∷ place u64 3 tt k ∷ [])
-    (value series-kinds.r) series-reads.Asked series-reads.Learnt series-symbol.routine
+    (value series-kinds.r) series-reads.Asked series-reads.Learnt (code_of library series-symbol.name)
 
 -- medlarbrace_parallel(left, right, out, written)
 abbrev pub parallel_function : List ℕ → List ℕ → List ℕ → ℕ → Run
 parallel_function y z out k =
     run 4 (shared u8 0 tt y ∷ shared u8 1 tt z ∷ mutable u8 2 tt out ∷ place u64 3 tt k ∷ [])
-    (value parallel-kinds.r) parallel-reads.Asked parallel-reads.Learnt parallel-symbol.routine
+    (value parallel-kinds.r) parallel-reads.Asked parallel-reads.Learnt (code_of library parallel-symbol.name)
 
 -- medlarbrace_tally_new(n1, n2, tally)
 abbrev pub new_function : ℕ → ℕ → List ℕ → Run
-new_function n1 n2 t = run 1 (number w32 n1 ∷ number w32 n2 ∷ mutable u32 0 tt t ∷ []) (value new-kinds.r) new-reads.Asked new-reads.Learnt new-symbol.routine
+new_function n1 n2 t =
+    run 1 (number w32 n1 ∷ number w32 n2 ∷ mutable u32 0 tt t ∷ [])
+    (value new-kinds.r) new-reads.Asked new-reads.Learnt (code_of library new-symbol.name)
 
 -- medlarbrace_tally_add(record, tally)
 abbrev pub add_function : List ℕ → List ℕ → Run
-add_function x t = run 2 (shared u8 0 tt x ∷ mutable u32 1 tt t ∷ []) (value add-kinds.r) add_reads.Asked add_reads.Learnt add-symbol.routine
+add_function x t = run 2 (shared u8 0 tt x ∷ mutable u32 1 tt t ∷ []) (value add-kinds.r) add_reads.Asked add_reads.Learnt (code_of library add-symbol.name)
 
 -- medlarbrace_tally_remove(record, tally)
 abbrev pub remove_function : List ℕ → List ℕ → Run
-remove_function x t = run 2 (shared u8 0 tt x ∷ mutable u32 1 tt t ∷ []) (value remove-kinds.r) remove-reads.Asked remove-reads.Learnt remove-symbol.routine
+remove_function x t =
+    run 2 (shared u8 0 tt x ∷ mutable u32 1 tt t ∷ [])
+    (value remove-kinds.r) remove-reads.Asked remove-reads.Learnt (code_of library remove-symbol.name)
 
 -- medlarbrace_tally_score(tally, score)
 abbrev pub score_function : List ℕ → ℕ → Run
-score_function t s = run 2 (shared u32 0 tt t ∷ place u32 1 tt s ∷ []) (value score-kinds.r) score-reads.Asked score-reads.Learnt score-symbol.routine
+score_function t s =
+    run 2 (shared u32 0 tt t ∷ place u32 1 tt s ∷ [])
+    (value score-kinds.r) score-reads.Asked score-reads.Learnt (code_of library score-symbol.name)
 
 -- medlarbrace_ageing(age, chance)
 abbrev pub ageing_function : ℕ → ℕ → Run
-ageing_function y chance = run 1 (number w64 y ∷ place u32 0 tt chance ∷ []) (value ageing-kinds.r) ageing-reads.Asked ageing-reads.Learnt ageing-symbol.routine
+ageing_function y chance =
+    run 1 (number w64 y ∷ place u32 0 tt chance ∷ [])
+    (value ageing-kinds.r) ageing-reads.Asked ageing-reads.Learnt (code_of library ageing-symbol.name)
 
 -- medlarbrace_weights(n, chance, weights)
 abbrev pub weights_function : ℕ → ℕ → List ℕ → Run
 weights_function n p out =
     run 1 (number w32 n ∷ number w32 p ∷ mutable u32 0 tt out ∷ [])
-    (value weights-kinds.r) weights-reads.Asked weights-reads.Learnt weights-symbol.routine
+    (value weights-kinds.r) weights-reads.Asked weights-reads.Learnt (code_of library weights-symbol.name)
 
 -- medlarbrace_reliability(tally, chance1, chance2, sum, rounds, reliability)
 abbrev pub reliability_function : List ℕ → ℕ → ℕ → ℕ → ℕ → ℕ → Run
 reliability_function t p1 p2 s m r =
     run 4 (shared u32 0 tt t ∷ number w32 p1 ∷ number w32 p2 ∷ place u64 1 tt s ∷ place u64 2 tt m ∷ place u64 3 tt r ∷ [])
-    (value reliability-kinds.r) reliability-reads.Asked reliability-reads.Learnt reliability-symbol.routine
+    (value reliability-kinds.r) reliability-reads.Asked reliability-reads.Learnt (code_of library reliability-symbol.name)
 
 -- medlarbrace_write(nodes, arcs, rounds, source, target, total, out, written)
 abbrev pub write_function : Given → List ℕ → ℕ → Run
@@ -123,13 +171,13 @@ write_function g out k =
     run 5
     (shared u8 0 tt g.nodes ∷ shared u8 1 tt g.arcs ∷ shared u8 2 tt g.rounds
     ∷ number w64 g.source ∷ number w64 g.target ∷ number w64 g.total ∷ mutable u8 3 tt out ∷ place u64 4 tt k ∷ [])
-    (value writer-kinds.r) writer-reads.Asked writer-reads.Learnt writer-symbol.routine
+    (value writer-kinds.r) writer-reads.Asked writer-reads.Learnt (code_of library writer-symbol.name)
 
 -- medlarbrace_convert(old, out, written)
 abbrev pub convert_function : List ℕ → List ℕ → ℕ → Run
 convert_function f out k =
     run 3 (shared u8 0 tt f ∷ mutable u8 1 tt out ∷ place u64 2 tt k ∷ [])
-    (value converter-kinds.r) converter-reads.Asked converter-reads.Learnt converter-symbol.routine
+    (value converter-kinds.r) converter-reads.Asked converter-reads.Learnt (code_of library converter-symbol.name)
 
 -- ---- WHAT IS SAID OF A RUN
 -- it returns 0 or the number of this answer's refusal (`code`), and what it was lent then holds these, a block each
@@ -183,7 +231,8 @@ pub record EveryFunction : Type 0 where
   pub ageing-says : (c : call.AgeingCall) (chance : ℕ) → let a = call.ageing_result c in
       Says (ageing_function (call.ageing_age c) chance) a (block u32 (value_left 0 a chance ∷ []) ∷ [])
   pub weights-says : (c : call.WeightsCall) →
-      Says (weights_function (call.weights_nodes c) (call.weights_chance c) (call.weights_lent c)) (call.weights_result c) (block u32 (call.weights_left c) ∷ [])
+      Says (weights_function (call.weights_nodes c) (call.weights_chance c) (call.weights_lent c)) (call.weights_result c)
+      (block u32 (call.weights_left c) ∷ [])
   pub reliability-says : (c : call.RateCall) (s m r : ℕ) → let a = call.rate_result c in
       Says (reliability_function (call.rate_tally c) (call.rate_chance1 c) (call.rate_chance2 c) s m r) a
       (block u32 (call.rate_tally c) ∷ block u64 (value_left 0 a s ∷ []) ∷ block u64 (value_left 1 a m ∷ []) ∷ block u64 (value_left 2 a r ∷ []) ∷ [])

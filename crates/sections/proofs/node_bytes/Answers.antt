@@ -1,6 +1,5 @@
 -- `sections::node_bytes` is the part from T - dN on.
 use mathlib.Core.Path.{ap, ap₂, ◌∙◌}
-use borrow.Author.Rules.{rules}
 use Rattle.slices.specs.Bytes.{part_at, word_at}
 use Rattle.sections.proofs.node_bytes.Goals as goal
 

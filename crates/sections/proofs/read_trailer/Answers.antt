@@ -1,5 +1,4 @@
 -- `sections::read_trailer` reads eight numbers.
-use borrow.Author.Rules.{rules}
 use Rattle.sections.proofs.read_trailer.Goals as goal
 
 pub returns : goal.returns

@@ -1,6 +1,5 @@
 -- `sections::round_at` is the part from the round's start on.
 use mathlib.Core.Path.{ap, ◌∙◌}
-use borrow.Author.Rules.{rules}
 use Rattle.slices.specs.Bytes.{part_at}
 use Rattle.sections.proofs.round_at.Goals as goal
 

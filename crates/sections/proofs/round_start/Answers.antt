@@ -1,7 +1,6 @@
 -- `sections::round_start` is T - dM and r rounds on.
 use mathlib.Core.Path.{ap}
 use Prim.Native.Nat.{◌+◌, ◌*◌}
-use borrow.Author.Rules.{rules}
 use Rattle.sections.proofs.round_start.Goals as goal
 
 pub returns : goal.returns

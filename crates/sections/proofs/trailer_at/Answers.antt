@@ -1,6 +1,5 @@
 -- `sections::trailer_at` is the file's length minus 32.
 use native.Mathlib.Omega.{arith}
-use borrow.Author.Rules.{rules}
 use Rattle.sections.proofs.trailer_at.Goals as goal
 
 pub returns : goal.returns

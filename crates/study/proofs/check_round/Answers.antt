@@ -1,7 +1,6 @@
 -- `study::check_round` opens the file for the round.
 use mathlib.Core.Path.{sym, ap, ◌∙◌}
 use mathlib.Core.List.{[], ◌∷◌}
-use borrow.Author.Rules.{rules}
 use Rattle.answer.specs.Outcome.{opened}
 use Rattle.answer.proofs.Outcomes.{refused_as, success-as}
 use Rattle.study.specs.Calls.{open_values, check_tests}

@@ -1,7 +1,6 @@
 -- `study::open_round` opens the file, then tests the number.
 use mathlib.Core.Path.{◌≡◌, sym, ap, ◌∙◌}
 use mathlib.Core.List.{[], ◌∷◌}
-use borrow.Author.Rules.{rules}
 use Rattle.answer.specs.Outcome.{success, opened, header_values}
 use Rattle.answer.proofs.Outcomes.{outcome-refused}
 use Rattle.study.specs.Calls.{bad_number, open_tests, open_values, open_answer}

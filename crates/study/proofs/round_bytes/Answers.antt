@@ -2,7 +2,6 @@
 use mathlib.Core.Path.{◌≡◌, refl, sym, ap, ◌∙◌}
 use mathlib.Core.List.{[], ◌∷◌}
 use native.Mathlib.Omega.{arith}
-use borrow.Author.Rules.{rules}
 use Rattle.answer.specs.Outcome.{success, outcome, opened, header_values}
 use Rattle.answer.proofs.Outcomes.{refused_as}
 use Rattle.slices.proofs.Placing.{moved}

@@ -1,7 +1,6 @@
 -- `study::test_trailer` refuses by each test in turn.
 use mathlib.Core.Path.{◌≡◌, sym, ◌∙◌}
 use mathlib.Core.Bool.{false}
-use borrow.Author.Rules.{rules}
 use Rattle.parts.proofs.Limits.{counts-fit}
 use Rattle.parts.specs.Tests.{bad_counts, bad_ends}
 use Rattle.study.proofs.Trailers.{length-fits}
