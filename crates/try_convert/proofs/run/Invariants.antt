@@ -1,7 +1,6 @@
 -- The loop of `run` makes 3000 turns. The counts keep their length.
 use mathlib.Core.Path.{◌≡◌}
 use Prim.Native.Nat.{◌-◌, ◌≤◌}
-use borrow.Author.Rules.{rules}
 use lib.ListN.{length}
 use Rattle.try_convert.proofs.run.Given as goal
 

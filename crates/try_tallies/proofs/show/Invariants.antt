@@ -1,6 +1,5 @@
 -- The loop of `show` goes over the numbers.
 use Prim.Native.Nat.{◌-◌, ◌≤◌}
-use borrow.Author.Rules.{rules}
 use Rattle.try_tallies.proofs.show.Given as goal
 
 abbrev pub invariant-loop-k : goal.invariant-loop-k

@@ -1,6 +1,5 @@
 -- The loop of `show_ages` goes over the ages to 39.
 use Prim.Native.Nat.{◌-◌, ◌≤◌}
-use borrow.Author.Rules.{rules}
 use Rattle.try_tallies.proofs.show_ages.Given as goal
 
 abbrev pub invariant-loop-y : goal.invariant-loop-y

@@ -1,7 +1,6 @@
 -- The loop of `order_of` goes over the bytes. The slice keeps its length.
 use mathlib.Core.Path.{◌≡◌}
 use Prim.Native.Nat.{◌-◌, ◌≤◌}
-use borrow.Author.Rules.{rules}
 use lib.ListN.{length}
 use Rattle.try_convert.proofs.fronts.order_of.Given as goal
 

@@ -1,7 +1,6 @@
 -- The loop of `rounds_of` goes over the four rounds. The slice keeps its length.
 use mathlib.Core.Path.{◌≡◌}
 use Prim.Native.Nat.{◌-◌, ◌*◌, ◌≤◌}
-use borrow.Author.Rules.{rules}
 use lib.ListN.{length}
 use Rattle.try_convert.proofs.fronts.rounds_of.Given as goal
 

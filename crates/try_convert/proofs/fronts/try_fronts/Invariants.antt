@@ -1,7 +1,6 @@
 -- The loop of `try_fronts` goes over the networks. The counts keep their length.
 use mathlib.Core.Path.{◌≡◌}
 use Prim.Native.Nat.{◌-◌, ◌≤◌}
-use borrow.Author.Rules.{rules}
 use lib.ListN.{length}
 use Rattle.try_convert.proofs.fronts.try_fronts.Given as goal
 

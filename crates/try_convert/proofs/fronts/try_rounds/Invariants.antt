@@ -1,7 +1,6 @@
 -- The loop of `try_rounds` goes over the four rounds. The counts keep their length.
 use mathlib.Core.Path.{◌≡◌}
 use Prim.Native.Nat.{◌-◌, ◌≤◌}
-use borrow.Author.Rules.{rules}
 use lib.ListN.{length}
 use Rattle.try_convert.proofs.fronts.try_rounds.Given as goal
 

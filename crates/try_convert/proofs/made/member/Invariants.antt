@@ -1,6 +1,5 @@
 -- The loop of `member` goes over the nodes.
 use Prim.Native.Nat.{◌-◌, ◌≤◌}
-use borrow.Author.Rules.{rules}
 use lib.ListN.{length}
 use Rattle.try_convert.proofs.made.member.Given as goal
 

@@ -1,7 +1,6 @@
 -- The loop of `without_kinds` goes over the entries, three bytes each. The slice keeps its length.
 use mathlib.Core.Path.{◌≡◌}
 use Prim.Native.Nat.{◌-◌, ◌*◌, ◌≤◌}
-use borrow.Author.Rules.{rules}
 use lib.ListN.{length}
 use Rattle.try_convert.proofs.made.without_kinds.Given as goal
 

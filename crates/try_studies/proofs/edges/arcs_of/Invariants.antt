@@ -1,7 +1,6 @@
 -- The loop of `arcs_of` goes over the arcs. The array keeps its length.
 use mathlib.Core.Path.{◌≡◌}
 use Prim.Native.Nat.{◌-◌, ◌≤◌}
-use borrow.Author.Rules.{rules}
 use lib.ListN.{length}
 use Rattle.try_studies.proofs.edges.arcs_of.Given as goal
 

@@ -1,7 +1,6 @@
 -- The loop of `bytes_in` goes over the bytes. The slice keeps its length.
 use mathlib.Core.Path.{◌≡◌}
 use Prim.Native.Nat.{◌-◌, ◌≤◌}
-use borrow.Author.Rules.{rules}
 use lib.ListN.{length}
 use Rattle.try_studies.proofs.edges.bytes_in.Given as goal
 

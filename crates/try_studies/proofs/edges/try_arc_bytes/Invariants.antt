@@ -1,7 +1,6 @@
 -- The loop of `try_arc_bytes` makes 7 turns. The counts keep their length.
 use mathlib.Core.Path.{◌≡◌}
 use Prim.Native.Nat.{◌-◌, ◌≤◌}
-use borrow.Author.Rules.{rules}
 use lib.ListN.{length}
 use Rattle.try_studies.proofs.edges.try_arc_bytes.Given as goal
 

@@ -1,7 +1,6 @@
 -- The loop of `try_arcs` goes over the list. The counts keep their length.
 use mathlib.Core.Path.{◌≡◌}
 use Prim.Native.Nat.{◌-◌, ◌≤◌}
-use borrow.Author.Rules.{rules}
 use lib.ListN.{length}
 use Rattle.try_studies.proofs.edges.try_arcs.Given as goal
 
