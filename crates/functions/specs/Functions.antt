@@ -1,5 +1,6 @@
--- EVERY FUNCTION OF THE C INTERFACE (crate medlarbrace, include/medlarbrace.h) on the machine (runs/specs/Run.antt): it ends, on any arguments that a
--- machine can hold; it returns 0 or the number of a refusal, what the call of document 01 with the same arguments answers (demands/specs/Demands.antt has what
+-- EVERY FUNCTION OF THE C INTERFACE (include/medlarbrace.h) on the machine (runs/specs/Run.antt), as crate medlarbrace has it; what C calls is the function
+-- of the same name in crate medlarbrace_c, whose code is a call of this one with the same arguments. Each ends, on any arguments that a machine can hold;
+-- it returns 0 or the number of a refusal, what the call of document 01 with the same arguments answers (demands/specs/Demands.antt has what
 -- is known of that call), and what it was lent then holds what that call left; where it returns another number than 0, every lent block is as it was.
 use Rattle.std.specs.Prelude.{◌≡◌, List, [], ◌∷◌, ℕ, ◌+◌, ◌≤◌, length}
 use lib.Chars.{codes}
@@ -209,7 +210,7 @@ pub record EveryFunction : Type 0 where
   pub writer-ends : (g : Given) (out : List ℕ) (k : ℕ) → AlwaysEnds (write_function g out k)
   pub converter-ends : (f out : List ℕ) (k : ℕ) → AlwaysEnds (convert_function f out k)
   -- what each answers and leaves: for every call, the function with that call's arguments answers and leaves what the call did; a value of
-  -- the answer goes where its pointer leads (`result`: the value's place in the answer; what was there, on a refusal)
+  -- the answer goes where its pointer leads (`value_left`: the value's place in the answer; what was there, on a refusal)
   pub search-says : (c : call.SearchCall) (k : ℕ) → let a = call.search_result c in
       Says (search_function (call.search_file c) (call.search_round c) (call.search_lent c) k) a
       (block u8 (call.search_file c) ∷ block u8 (call.search_left c) ∷ block u64 (value_left 0 a k ∷ []) ∷ [])
