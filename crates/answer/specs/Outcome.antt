@@ -1,21 +1,10 @@
 -- What an answer means in document 01 ("Numbers from the input", "Numbers from the state"): the values of a success, or the number of a refusal.
-use Rattle.std.specs.Prelude.{Bool, true, false, List, [], ◌∷◌, ◌++◌, ℕ, ltb, length, drop}
+use Rattle.std.specs.Prelude.{Bool, true, false, List, [], ◌∷◌, ◌++◌, ℕ, Result, Ok, Err, ltb, length, drop}
 use Rattle.laws.specs.First.{first_true}
 use Rattle.answer.specs.declared.Refusal.{Refusal}
-use Rattle.answer.specs.declared.Written.{Written}
-use Rattle.answer.specs.declared.Done.{Done}
 use Rattle.answer.specs.declared.Header.{Header}
-use Rattle.answer.specs.declared.Opened.{Opened}
-use Rattle.answer.specs.declared.Aged.{Aged}
-use Rattle.answer.specs.declared.Scored.{Scored}
-use Rattle.answer.specs.declared.Rated.{Rated}
+use Rattle.answer.specs.declared.Rate.{Rate}
 use Rattle.answer.specs.declared.Refusal.TheVariants as refusal
-use Rattle.answer.specs.declared.Written.TheVariants as written_as
-use Rattle.answer.specs.declared.Done.TheVariants as done-as
-use Rattle.answer.specs.declared.Opened.TheVariants as opened-as
-use Rattle.answer.specs.declared.Aged.TheVariants as aged-as
-use Rattle.answer.specs.declared.Scored.TheVariants as scored-as
-use Rattle.answer.specs.declared.Rated.TheVariants as rated-as
 
 -- a success and its values, or a refusal and its number
 pub data Outcome : Type 0 where
@@ -72,35 +61,34 @@ number_of refusal.NoRounds = 25
 number_of refusal.NotRemovable = 31
 number_of refusal.Kind = 32
 
+-- what a call answers: the values of its success, or the number of its refusal
+abbrev pub told : {A : Type 0} → (A → List ℕ) → Result A Refusal → Outcome
+told values (Ok x) = success (values x)
+told values (Err r) = refused (number_of r)
+
 -- "search, row, side and writer the length written"
-abbrev pub written : Written → Outcome
-written (written_as.Bytes n) = success (n ∷ [])
-written (written_as.Refused r) = refused (number_of r)
+abbrev pub written : Result ℕ Refusal → Outcome
+written = told (λ n. n ∷ [])
 
 -- "fresh, add and weights 0"; so does remove (02: take)
-abbrev pub done : Done → Outcome
-done done-as.Done = success (0 ∷ [])
-done (done-as.Refused r) = refused (number_of r)
+abbrev pub done : Result Unit Refusal → Outcome
+done = told (λ x. 0 ∷ [])
 
 -- "opening N, A, M, s, t, n1, n2"
 abbrev pub header_values : Header → List ℕ
 header_values h = h.nodes ∷ h.arcs ∷ h.rounds ∷ h.source ∷ h.target ∷ h.n1 ∷ h.n2 ∷ []
 
-abbrev pub opened : Opened → Outcome
-opened (opened-as.Study h) = success (header_values h)
-opened (opened-as.Refused r) = refused (number_of r)
+abbrev pub opened : Result Header Refusal → Outcome
+opened = told header_values
 
 -- "ageing the chance"
-abbrev pub aged : Aged → Outcome
-aged (aged-as.Chance p) = success (p ∷ [])
-aged (aged-as.Refused r) = refused (number_of r)
+abbrev pub aged : Result ℕ Refusal → Outcome
+aged = told (λ p. p ∷ [])
 
 -- score: a tally's fourth word (02, S-5)
-abbrev pub scored : Scored → Outcome
-scored (scored-as.Score n) = success (n ∷ [])
-scored (scored-as.Refused r) = refused (number_of r)
+abbrev pub scored : Result ℕ Refusal → Outcome
+scored = told (λ n. n ∷ [])
 
 -- reliability: S, M and R
-abbrev pub rated : Rated → Outcome
-rated (rated-as.Found k) = success (k.sum ∷ k.rounds ∷ k.rate ∷ [])
-rated (rated-as.Refused r) = refused (number_of r)
+abbrev pub rated : Result Rate Refusal → Outcome
+rated = told (λ k. k.sum ∷ k.rounds ∷ k.rate ∷ [])

@@ -1,4 +1,3 @@
 pub mod Puts
 pub mod Builds
 pub mod Collects
-pub mod Linked

@@ -7,10 +7,9 @@ ghost use Rattle.answer.specs.Outcome.{written, fill_answer, fill_out};
 ghost use Rattle.record.specs.Record.{record_size1, record_size2, listed, front_bytes, longest};
 ghost use Rattle.buffer.specs.Steps.{record_in, stored, Puttable};
 
-use answer::Written;
+use answer::Refusal;
 use front::Pair;
 use limits::MAX_CLASS;
-use slices::wide;
 
 // The most bytes that a record has: 3, and 2 for each pair.
 pub const LONGEST: usize = 3 + 2 * (MAX_CLASS + 1);
@@ -30,7 +29,7 @@ fn place(buffer: &mut [u8; LONGEST], at: u8, p: Pair)
     requires { at ≤ max_class }
     ensures { buffer.new ≡ stored buffer.old at p }
 {
-    let i = 3 + 2 * wide(at);
+    let i = 3 + 2 * at as usize;
     buffer[2] = at + 1;
     buffer[i] = p.p1.0;
     buffer[i + 1] = p.p2.0;
@@ -61,11 +60,11 @@ pub fn put(buffer: &mut [u8; LONGEST], p: Pair)
 }
 
 // Copies the record that a buffer begins with into `out`, or refuses where `out` is shorter.
-pub fn deliver(buffer: [u8; LONGEST], out: &mut [u8]) -> Written
+pub fn deliver(buffer: [u8; LONGEST], out: &mut [u8]) -> Result<usize, Refusal>
     ensures answer { written result ≡ fill_answer [] (record_in buffer) (length out.old) }
     ensures slice { out.new ≡ fill_out [] (record_in buffer) out.old }
 {
-    let n = 3 + 2 * wide(buffer[2]);
+    let n = 3 + 2 * buffer[2] as usize;
     if n < LONGEST {
         return answer::deliver(&buffer[0..n], out);
     }

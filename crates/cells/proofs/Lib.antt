@@ -1,4 +1,3 @@
 pub mod Tables
 pub mod Peaks
 pub mod Rows
-pub mod Linked

@@ -10,7 +10,7 @@ ghost use Rattle.soundness.specs.Tally.{width};
 ghost use Rattle.cells.specs.Steps.{turn, turn_all, peak_at, starts_line, Lines, line_test, edges_test};
 ghost use Rattle.cells.specs.Steps.{CanChange, changed_part, Fitting, CellsCanChange, changed_cells, held_cells};
 
-use front::{Pair, Pos1, Pos2};
+use front::{Pair, Pos, Pos2};
 use limits::MAX_POSITION;
 
 // ---- the record's heights
@@ -26,8 +26,8 @@ fn turned(p: Pair, flip: bool) -> Pair
 {
     if flip {
         return Pair {
-            p1: Pos1(p.p2.0),
-            p2: Pos2(p.p1.0),
+            p1: Pos(p.p2.0),
+            p2: Pos(p.p1.0),
         };
     }
     p
@@ -43,8 +43,8 @@ fn heights(record: &[u8], flip: bool) -> [u8; MAX_POSITION + 1]
     let mut i: u8 = 0;
     while i < k {
         let p = turned(record::pair_at(record, i), flip);
-        let x = slices::wide(p.p1.0);
-        heights[x] = larger(Pos2(heights[x]), p.p2).0;
+        let x = p.p1.0 as usize;
+        heights[x] = larger(Pos(heights[x]), p.p2).0;
         i += 1;
     }
     heights
@@ -73,14 +73,14 @@ pub fn change_rows(cells: &mut [u32], record: &[u8], n1: u8, n2: u8, up: u32, do
     ensures slice { cells.new ≡ changed_cells up down «record».now n1 n2 cells.old }
 {
     let top = heights(record, false);
-    let w = slices::wide(n2) + 1;
-    let mut y = Pos2(0);
+    let w = n2 as usize + 1;
+    let mut y = Pos(0);
     let mut n = 0;
     let mut at = 0;
-    let mut x = slices::wide(n1) + 1;
+    let mut x = n1 as usize + 1;
     while 0 < x {
-        y = larger(y, Pos2(top[x]));
-        let k = slices::wide(y.0);
+        y = larger(y, Pos(top[x]));
+        let k = y.0 as usize;
         change_part(cells, at + (w - k), k, up, down);
         n += k;
         at += w;
@@ -125,12 +125,12 @@ fn lines_start(
 {
     let top = heights(record, flip);
     let mut all = true;
-    let mut y = Pos2(0);
+    let mut y = Pos(0);
     let mut at = 0;
     let mut x = lines;
     while 0 < x {
-        y = larger(y, Pos2(top[x]));
-        all = all & starts(cells, at, n, slices::wide(y.0), step);
+        y = larger(y, Pos(top[x]));
+        all = all & starts(cells, at, n, y.0 as usize, step);
         at += stride;
         x -= 1;
     }
@@ -142,8 +142,8 @@ pub fn edges_ready(cells: &[u32], record: &[u8], n1: u8, n2: u8) -> bool
     requires { Fitting cells.now «record».now n1 n2 }
     ensures { result ≡ edges_test «record».now n1 n2 cells.now }
 {
-    let h = slices::wide(n1) + 1;
-    let w = slices::wide(n2) + 1;
+    let h = n1 as usize + 1;
+    let w = n2 as usize + 1;
     let rows = lines_start(cells, record, false, h, w, w, 1);
     rows & lines_start(cells, record, true, w, h, 1, w)
 }
@@ -153,6 +153,6 @@ pub fn top_ready(cells: &[u32], record: &[u8], n1: u8, n2: u8, m: u32) -> bool
     requires { Fitting cells.now «record».now n1 n2 }
     ensures { result ≡ (record_holds «record».now 0 0 || ltb (get_or cells.now (n1 * width n2 + n2) 0) m) }
 {
-    let i = slices::wide(n1) * (slices::wide(n2) + 1) + slices::wide(n2);
+    let i = n1 as usize * (n2 as usize + 1) + n2 as usize;
     record::holds(record, 0, 0) | (cells[i] < m)
 }

@@ -9,7 +9,6 @@ ghost use Rattle.parts.specs.Study.{Entry, Arc, entries_from};
 ghost use Rattle.chains.specs.Steps.{max_links, arc_added, way_arcs, way_count, split_entries, Linked};
 
 use limits::{ARC, MAX_ARCS, MAX_CLASS, MAX_NODES};
-use slices::wide;
 
 // The most elements: nodes, and the middles of arcs.
 pub const MAX_ELEMENTS: usize = MAX_NODES + MAX_ARCS;
@@ -60,8 +59,8 @@ pub fn link(arcs: &[u8], nodes: usize, size: usize, links: &mut [u16])
     let mut i: usize = 0;
     let mut d: usize = 0;
     while i < n {
-        let u = wide(arcs[ARC * i]);
-        let v = wide(arcs[ARC * i + 1]);
+        let u = arcs[ARC * i] as usize;
+        let v = arcs[ARC * i + 1] as usize;
         let kind = arcs[ARC * i + 2];
         let m = nodes + i;
         if kind == 0 {

@@ -1,4 +1,3 @@
 pub mod Merges
 pub mod Answers
 pub mod Algebra
-pub mod Linked

@@ -10,32 +10,32 @@ ghost use Rattle.buffer.specs.Steps.{record_in};
 ghost use Rattle.compose.specs.Compose.{record_tests, series_bytes, parallel_bytes, series_answer, series_out, parallel_answer, parallel_out};
 ghost use Rattle.compose.specs.Steps.{Joinable};
 
-use answer::{Done, Refusal, Written};
+use answer::Refusal;
 
 // The series of two records: it holds where both do.
-pub fn series(left: &[u8], right: &[u8], out: &mut [u8]) -> Written
+pub fn series(left: &[u8], right: &[u8], out: &mut [u8]) -> Result<usize, Refusal>
     ensures answer { written result ≡ series_answer left.now right.now (length out.old) }
     ensures slice { out.new ≡ series_out left.now right.now out.old }
 {
-    if let Done::Refused(r) = joinable(left, right) {
-        return Written::Refused(r);
+    if let Err(r) = joinable(left, right) {
+        return Err(r);
     }
     buffer::deliver(merge_series(left, right), out)
 }
 
 // The parallel of two records: it holds where one of them does.
-pub fn parallel(left: &[u8], right: &[u8], out: &mut [u8]) -> Written
+pub fn parallel(left: &[u8], right: &[u8], out: &mut [u8]) -> Result<usize, Refusal>
     ensures answer { written result ≡ parallel_answer left.now right.now (length out.old) }
     ensures slice { out.new ≡ parallel_out left.now right.now out.old }
 {
-    if let Done::Refused(r) = joinable(left, right) {
-        return Written::Refused(r);
+    if let Err(r) = joinable(left, right) {
+        return Err(r);
     }
     buffer::deliver(merge_parallel(left, right), out)
 }
 
 // Numbers 12 and 13.
-fn joinable(left: &[u8], right: &[u8]) -> Done
+fn joinable(left: &[u8], right: &[u8]) -> Result<(), Refusal>
     ensures { done result ≡ outcome (record_tests left.now right.now) (0 ∷ []) }
 {
     let records = record::is_record(left) & record::is_record(right);
@@ -43,12 +43,12 @@ fn joinable(left: &[u8], right: &[u8]) -> Done
     let r = record::read_head(right);
     let same = (l.n1 == r.n1) & (l.n2 == r.n2);
     if !records {
-        return Done::Refused(Refusal::NotRecord);
+        return Err(Refusal::NotRecord);
     }
     if !same {
-        return Done::Refused(Refusal::SizesDiffer);
+        return Err(Refusal::SizesDiffer);
     }
-    Done::Done
+    Ok(())
 }
 
 // The front of all pairwise minima. Of two pairs the one with the smaller p2 is done with: its

@@ -5,4 +5,3 @@ pub mod Orders
 pub mod Fronts
 pub mod Converts
 pub mod Writes
-pub mod Linked

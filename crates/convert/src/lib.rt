@@ -10,12 +10,12 @@ ghost use Rattle.convert.specs.Old.{old_arc_size, old_bad_arcs, old_part_tests};
 ghost use Rattle.convert.specs.Convert.{with_kinds, by_places, convert_tests, convert_answer, convert_out};
 ghost use Rattle.convert.specs.Steps.{NodesBelow, PlaceTable};
 
-use answer::{Done, Refusal, Written};
+use answer::Refusal;
 use limits::{ARC, MAX_NODES, TRAILER};
 use orders::count;
-use parts::{Counted, bad_orders, test_parts};
+use parts::{Sizes, bad_orders, test_parts};
 use sections::{arc_bytes, node_bytes, read_trailer, round_at};
-use slices::{put, wide};
+use slices::put;
 use study::test_trailer;
 use writer::put_trailer;
 
@@ -38,41 +38,41 @@ fn bad_old_arcs(n: u8, arcs: &[u8]) -> bool
 }
 
 // Numbers 5, 6 and 8; the first two are those of a study without arcs.
-fn test_old_parts(nodes: &[u8], arcs: &[u8]) -> Done
+fn test_old_parts(nodes: &[u8], arcs: &[u8]) -> Result<(), Refusal>
     requires { length nodes.now ≤ max_nodes }
     ensures { done result ≡ outcome (old_part_tests (length nodes.now) nodes.now arcs.now) (0 ∷ []) }
 {
-    if let Counted::Refused(r) = test_parts(nodes, &arcs[0..0]) {
-        return Done::Refused(r);
+    if let Err(r) = test_parts(nodes, &arcs[0..0]) {
+        return Err(r);
     }
     if bad_old_arcs(nodes.len() as u8, arcs) {
-        return Done::Refused(Refusal::Arc);
+        return Err(Refusal::Arc);
     }
-    Done::Done
+    Ok(())
 }
 
 // All numbers but 15. The rounds are read as one part.
-fn test_old(old: &[u8]) -> Done
+fn test_old(old: &[u8]) -> Result<(), Refusal>
     ensures { done result ≡ outcome (convert_tests old.now) (0 ∷ []) }
 {
     let t = read_trailer(old);
-    if let Done::Refused(r) = test_trailer(old.len(), t, OLD_ARC) {
-        return Done::Refused(r);
+    if let Err(r) = test_trailer(old.len(), t, OLD_ARC) {
+        return Err(r);
     }
     let nodes = node_bytes(old);
     let n1 = count(nodes, 1);
     let n2 = count(nodes, 2);
-    if let Done::Refused(r) = test_old_parts(nodes, arc_bytes(old, OLD_ARC)) {
-        return Done::Refused(r);
+    if let Err(r) = test_old_parts(nodes, arc_bytes(old, OLD_ARC)) {
+        return Err(r);
     }
     let dm = t.rounds * (n1 + n2);
     if t.dm < dm {
-        return Done::Refused(Refusal::RoundsLength);
+        return Err(Refusal::RoundsLength);
     }
     if bad_orders(nodes, nodes, round_at(old, dm, 0), n1, n2, t.rounds) {
-        return Done::Refused(Refusal::Order);
+        return Err(Refusal::Order);
     }
-    Done::Done
+    Ok(())
 }
 
 // The place of each node in its class.
@@ -110,7 +110,7 @@ fn put_rounds(place: &[u8], rounds: &[u8], out: &mut [u8], at: usize)
 {
     let mut i = 0;
     while i < rounds.len() {
-        let v = wide(rounds[i]);
+        let v = rounds[i] as usize;
         out[at + i] = place[v];
         i += 1;
     }
@@ -133,12 +133,12 @@ fn lay_out(nodes: &[u8], arcs: &[u8], rounds: &[u8], words: [usize; 8], out: &mu
 
 // Converts an old study file: numbers 1 to 6, 8, 9 and 11 by the old form, 15 by the new one, or the
 // length of the new file and the file in `out`.
-pub fn convert(old: &[u8], out: &mut [u8]) -> Written
+pub fn convert(old: &[u8], out: &mut [u8]) -> Result<usize, Refusal>
     ensures answer { written result ≡ convert_answer old.now (length out.old) }
     ensures slice { out.new ≡ convert_out old.now out.old }
 {
-    if let Done::Refused(r) = test_old(old) {
-        return Written::Refused(r);
+    if let Err(r) = test_old(old) {
+        return Err(r);
     }
     let t = read_trailer(old);
     let nodes = node_bytes(old);
@@ -147,7 +147,7 @@ pub fn convert(old: &[u8], out: &mut [u8]) -> Written
     let dn = t.nodes + da;
     let end = dn + TRAILER;
     if out.len() < end {
-        return Written::Refused(Refusal::OutputShort);
+        return Err(Refusal::OutputShort);
     }
     let words = [t.nodes, t.arcs, t.rounds, t.source, t.target, dn, da, dm];
     lay_out(
@@ -157,5 +157,5 @@ pub fn convert(old: &[u8], out: &mut [u8]) -> Written
         words,
         out,
     );
-    Written::Bytes(end)
+    Ok(end)
 }

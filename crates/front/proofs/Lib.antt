@@ -2,4 +2,3 @@ pub mod Pairs
 pub mod Grid
 pub mod Fronts
 pub mod Joins
-pub mod Linked

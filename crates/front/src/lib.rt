@@ -1,17 +1,12 @@
 // Positions of the two classes, and the pair of a route.
-//
-// The two kinds of position are types of their own, so that a minimum or a comparison never
-// crosses classes.
 #![tactic(auto)]
 
-mod class1;
-mod class2;
+mod pos;
 
 ghost use Rattle.std.specs.Prelude.{◌≡◌};
 ghost use Rattle.front.specs.Pair.{min_pair, covers, same, dominates, holds_at};
 
-pub use class1::Pos1;
-pub use class2::Pos2;
+pub use pos::{Pos, Pos1, Pos2};
 
 // The least position of each class on a route.
 #[derive(Clone, Copy)]

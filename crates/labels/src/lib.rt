@@ -5,9 +5,8 @@ ghost use Rattle.std.specs.Prelude.{[], ◌+◌, ◌-◌, ◌≤◌, ◌<◌, le
 ghost use Rattle.limits.specs.Limits.{max_position};
 ghost use Rattle.relax.specs.Steps.{Graph, Work, NextLevel, Settled, Floodable, Lengths};
 
-use front::Pos2;
+use front::{Pos, Pos2};
 use relax::{Step, spread, step_to};
-use slices::wide;
 
 // All that a level reaches from a node, and what then waits below it: until the source has the
 // level, or nothing is left.
@@ -29,7 +28,7 @@ fn drain(
     let mut top: usize = 1;
     while 0 < top {
         let s = at.source;
-        if Pos2(label[s]).at_least(at.level) {
+        if Pos(label[s]).at_least(at.level) {
             return;
         }
         let k = top - 1;
@@ -45,13 +44,13 @@ fn next_level(wait: &[u16], level: Pos2, floor: Pos2) -> Pos2
 {
     let done = level.0;
     let mut m = done - 1;
-    while Pos2(m).above(floor) {
-        if wait[wide(m)] != 0 {
-            return Pos2(m);
+    while Pos(m).above(floor) {
+        if wait[m as usize] != 0 {
+            return Pos(m);
         }
         m -= 1;
     }
-    Pos2(0)
+    Pos(0)
 }
 
 // The label of a node carried on to all nodes that it raises above the label of the source, the
@@ -76,8 +75,8 @@ pub fn flood(
         let at = step_to(begin, begin.x, level, node, 0);
         drain(capacities, links, at, label, stack, wait);
         let s = begin.source;
-        level = next_level(wait, level, Pos2(label[s]));
-        let p = wide(level.0);
+        level = next_level(wait, level, Pos(label[s]));
+        let p = level.0 as usize;
         if p == 0 {
             return;
         }

@@ -11,7 +11,6 @@ ghost use Rattle.members.specs.Steps.{elements_in, table_size, Tabled, Lists, By
 
 use limits::{ARC, MAX_CLASS};
 use orders::same;
-use slices::wide;
 
 // A place for each member, and one more, which is written and not counted.
 const TABLE: usize = MAX_CLASS + 1;
@@ -39,8 +38,8 @@ fn put_nodes(nodes: &[u8], table1: &mut [u16], table2: &mut [u16]) -> Sizes
         let class = nodes[v];
         table1[n1] = v as u16;
         table2[n2] = v as u16;
-        n1 += wide(same(class, 1));
-        n2 += wide(same(class, 2));
+        n1 += same(class, 1) as usize;
+        n2 += same(class, 2) as usize;
         v += 1;
     }
     Sizes { n1: n1, n2: n2 }
@@ -72,8 +71,8 @@ fn put_arcs(
         let element = (nodes.len() + i) as u16;
         table1[n1] = element;
         table2[n2] = element;
-        n1 += wide(same(class, 1));
-        n2 += wide(same(class, 2));
+        n1 += same(class, 1) as usize;
+        n2 += same(class, 2) as usize;
         i += 1;
     }
 }
@@ -88,7 +87,7 @@ fn look_up(table: &[u16], order: &[u8], out: &mut [u16])
 {
     let mut k: usize = 0;
     while k < order.len() {
-        out[k] = table[wide(order[k])];
+        out[k] = table[order[k] as usize];
         k += 1;
     }
 }

@@ -1,13 +1,13 @@
 -- STEPS: what proofs and the contracts between our crates speak of. Nobody has to believe these: no promise to a caller cites them.
-use Rattle.std.specs.Prelude.{◌≡◌, Bool, cond, List, [], ◌∷◌, map, ℕ, zero, suc, ◌+◌, ◌*◌, ◌≤◌, eqb, ltb, drop}
+use Rattle.std.specs.Prelude.{◌≡◌, Bool, cond, List, [], ◌∷◌, map, ℕ, zero, suc, Result, ◌+◌, ◌*◌, ◌≤◌, eqb, ltb, drop}
 use Rattle.limits.specs.Limits.{arc_size, max_kind}
 use Rattle.laws.specs.Members.{any}
-use Rattle.answer.specs.Outcome.{Outcome, success, refused, number_of}
+use Rattle.answer.specs.declared.Refusal.{Refusal}
+use Rattle.answer.specs.Outcome.{Outcome, told}
 use Rattle.orders.specs.Order.{count}
 use Rattle.parts.specs.Study.{Entry, entry_class, entries_from}
 use Rattle.parts.specs.Tests.{bad_arc, bad_arcs, bad_kinds}
-use Rattle.parts.specs.declared.Counted.{Counted}
-use Rattle.parts.specs.declared.Counted.TheVariants as counted-as
+use Rattle.parts.specs.declared.Sizes.{Sizes}
 
 -- n1 and n2, of the elements' classes
 abbrev pub sizes_of : List ℕ → List ℕ
@@ -18,9 +18,8 @@ abbrev pub arc_tests : ℕ → List Entry → List (ℕ × Bool)
 arc_tests N entries = (8, bad_arcs N entries) ∷ (32, bad_kinds entries) ∷ []
 
 -- what the tests of nodes and arcs find
-abbrev pub counted : Counted → Outcome
-counted (counted-as.Sizes n1 n2) = success (n1 ∷ n2 ∷ [])
-counted (counted-as.Refused r) = refused (number_of r)
+abbrev pub counted : Result Sizes Refusal → Outcome
+counted = told (λ s. s.n1 ∷ s.n2 ∷ [])
 
 -- ---- the pass over the arc entries
 -- those from place i on

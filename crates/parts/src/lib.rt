@@ -15,13 +15,13 @@ ghost use Rattle.parts.specs.Steps.{sizes_of, arc_tests, counted, Looked, field_
 use answer::Refusal;
 use limits::{ARC, MAX_ARCS, MAX_CLASS, MAX_KIND, MAX_NODES, MAX_ROUNDS, MIN_NODES};
 use orders::{are_orders, count};
-use slices::{part, wide};
+use slices::part;
 
-// What the tests of nodes and arcs find: n1 and n2, or a refusal.
+// Document 01's n1 and n2: the elements of classes 1 and 2.
 #[derive(Clone, Copy)]
-pub enum Counted {
-    Sizes(usize, usize),
-    Refused(Refusal),
+pub struct Sizes {
+    pub n1: usize,
+    pub n2: usize,
 }
 
 // Number 2: the numbers of nodes, arcs and rounds.
@@ -156,8 +156,8 @@ fn good_blocks(n: u8, arcs: &[u8]) -> Begun
                 n2: n2,
             };
         }
-        n1 += wide(found.n1);
-        n2 += wide(found.n2);
+        n1 += found.n1 as usize;
+        n2 += found.n2 as usize;
         i += BLOCK;
     }
     Begun {
@@ -169,7 +169,7 @@ fn good_blocks(n: u8, arcs: &[u8]) -> Begun
 
 // Numbers 8 and 32, or how many arcs are of classes 1 and 2: one pass over the entries that are
 // left, which ends at a bad one. At a bad kind all arcs are looked at again, since 8 comes before 32.
-fn count_rest(n: u8, arcs: &[u8], begun: Begun) -> Counted
+fn count_rest(n: u8, arcs: &[u8], begun: Begun) -> Result<Sizes, Refusal>
     requires { (begun.i ≤ arc_count arcs.now) × Looked n arcs.now begun.i begun.n1 begun.n2 }
     ensures { counted result ≡ outcome (arc_tests n (entries_from arcs.now)) (sizes_of (map entry_class (entries_from arcs.now))) }
 {
@@ -182,47 +182,47 @@ fn count_rest(n: u8, arcs: &[u8], begun: Begun) -> Counted
     while i < arcs.len() / ARC {
         let kind = arcs[ARC * i + 2];
         if bad_arc(n, arcs[ARC * i], arcs[ARC * i + 1]) {
-            return Counted::Refused(Refusal::Arc);
+            return Err(Refusal::Arc);
         }
         if MAX_KIND < kind {
             if bad_arcs(n, arcs) {
-                return Counted::Refused(Refusal::Arc);
+                return Err(Refusal::Arc);
             }
-            return Counted::Refused(Refusal::Kind);
+            return Err(Refusal::Kind);
         }
-        let k = wide(kind);
-        n1 += wide(class1[k]);
-        n2 += wide(class2[k]);
+        let k = kind as usize;
+        n1 += class1[k] as usize;
+        n2 += class2[k] as usize;
         i += 1;
     }
-    Counted::Sizes(n1, n2)
+    Ok(Sizes { n1: n1, n2: n2 })
 }
 
 // Numbers 8 and 32, or how many arcs are of classes 1 and 2.
-fn count_arcs(n: u8, arcs: &[u8]) -> Counted
+fn count_arcs(n: u8, arcs: &[u8]) -> Result<Sizes, Refusal>
     ensures { counted result ≡ outcome (arc_tests n (entries_from arcs.now)) (sizes_of (map entry_class (entries_from arcs.now))) }
 {
     count_rest(n, arcs, good_blocks(n, arcs))
 }
 
 // Numbers 5, 8, 32 and 6, or n1 and n2, the elements of classes 1 and 2.
-pub fn test_parts(nodes: &[u8], arcs: &[u8]) -> Counted
+pub fn test_parts(nodes: &[u8], arcs: &[u8]) -> Result<Sizes, Refusal>
     requires { length nodes.now ≤ max_nodes }
     ensures { counted result ≡ outcome (part_tests (length nodes.now) nodes.now arcs.now)
         (sizes_of (elements nodes.now (entries_from arcs.now))) }
 {
     if bad_classes(nodes) {
-        return Counted::Refused(Refusal::NodeClass);
+        return Err(Refusal::NodeClass);
     }
     match count_arcs(nodes.len() as u8, arcs) {
-        Counted::Refused(r) => Counted::Refused(r),
-        Counted::Sizes(arcs1, arcs2) => {
-            let n1 = count(nodes, 1) + arcs1;
-            let n2 = count(nodes, 2) + arcs2;
+        Err(r) => Err(r),
+        Ok(of_arcs) => {
+            let n1 = count(nodes, 1) + of_arcs.n1;
+            let n2 = count(nodes, 2) + of_arcs.n2;
             if (MAX_CLASS < n1) | (MAX_CLASS < n2) {
-                return Counted::Refused(Refusal::ClassSize);
+                return Err(Refusal::ClassSize);
             }
-            Counted::Sizes(n1, n2)
+            Ok(Sizes { n1: n1, n2: n2 })
         }
     }
 }

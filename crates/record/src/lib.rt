@@ -7,8 +7,8 @@ ghost use Rattle.std.specs.Prelude.{◌≡◌};
 ghost use Rattle.record.specs.Record.{record_size1, record_size2, pair_count, record_holds};
 ghost use Rattle.record.specs.Steps.{pair_at};
 
-use front::{Pair, Pos1, Pos2};
-use slices::{byte, wide};
+use front::{Pair, Pos};
+use slices::byte;
 pub use valid::is_record;
 
 // The three bytes in front of the pairs.
@@ -34,10 +34,10 @@ pub fn read_head(bytes: &[u8]) -> Head
 pub fn pair_at(bytes: &[u8], i: u8) -> Pair
     ensures { result ≡ pair_at bytes.now i }
 {
-    let at = 3 + 2 * wide(i);
+    let at = 3 + 2 * i as usize;
     Pair {
-        p1: Pos1(byte(bytes, at)),
-        p2: Pos2(byte(bytes, at + 1)),
+        p1: Pos(byte(bytes, at)),
+        p2: Pos(byte(bytes, at + 1)),
     }
 }
 
@@ -51,8 +51,8 @@ pub fn holds(bytes: &[u8], a: u8, b: u8) -> bool
             return false;
         }
         let p = Pair {
-            p1: Pos1(bytes[at]),
-            p2: Pos2(bytes[at + 1]),
+            p1: Pos(bytes[at]),
+            p2: Pos(bytes[at + 1]),
         };
         if p.holds(a, b) {
             return true;

@@ -5,9 +5,8 @@ ghost use Rattle.laws.specs.Members.{all};
 ghost use Rattle.record.specs.Record.{pair_count, listed, in_range, follows, falling, is_record};
 
 use crate::{pair_at, read_head};
-use front::{Pair, Pos1, Pos2};
+use front::{Pair, Pos};
 use limits::MAX_CLASS;
-use slices::wide;
 
 // The largest class size that a record may name.
 const MOST: u8 = MAX_CLASS as u8;
@@ -26,7 +25,7 @@ pub fn is_record(bytes: &[u8]) -> bool
     if MOST < n2 {
         return false;
     }
-    if bytes.len() != 3 + 2 * wide(k) {
+    if bytes.len() != 3 + 2 * k as usize {
         return false;
     }
     if n1 + 1 < k {
@@ -45,8 +44,8 @@ fn pairs_fit(bytes: &[u8], n1: u8, n2: u8) -> bool
 {
     let k = read_head(bytes).k;
     let mut last = Pair {
-        p1: Pos1(n1 + 2),
-        p2: Pos2(0),
+        p1: Pos(n1 + 2),
+        p2: Pos(0),
     };
     let mut i: u8 = 0;
     while i < k {
@@ -67,7 +66,7 @@ fn fits(n1: u8, n2: u8, last: Pair, p: Pair) -> bool
 {
     let x = p.p1;
     let y = p.p2;
-    let in1 = x.at_least(Pos1(1)) & Pos1(n1 + 1).at_least(x);
-    let in2 = y.at_least(Pos2(1)) & Pos2(n2 + 1).at_least(y);
+    let in1 = x.at_least(Pos(1)) & Pos(n1 + 1).at_least(x);
+    let in2 = y.at_least(Pos(1)) & Pos(n2 + 1).at_least(y);
     (in1 & in2) & (last.p1.above(x) & y.above(last.p2))
 }

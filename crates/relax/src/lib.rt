@@ -5,8 +5,8 @@
 ghost use Rattle.std.specs.Prelude.{◌≡◌, ◌-◌};
 ghost use Rattle.relax.specs.Steps.{Graph, moved, mark_at, growth, Work, Kept, Ready};
 
-use front::{Pos1, Pos2};
-use slices::{wide, wide_two};
+use front::{Pos, Pos1, Pos2};
+
 
 // Where a spread stands: the source; x, one more than the class 1 failures; the level that spreads,
 // the node at work and the height of the stack.
@@ -39,7 +39,7 @@ fn mark_at(level: Pos2, c: Pos2) -> usize
     if c.at_least(level) {
         return 0;
     }
-    wide(c.0)
+    c.0 as usize
 }
 
 // By how much the stack grows with it: by 1 where it has the level and its node is in.
@@ -70,21 +70,21 @@ pub fn spread(
 {
     let size = capacities.len() / 2;
     let mut top = at.top;
-    let mut i = wide_two(links[wide_two(at.node)]);
+    let mut i = links[at.node as usize] as usize;
     while 0 < i {
         let p = size + 2 * (i - 1);
-        i = wide_two(links[p + 1]);
+        i = links[p + 1] as usize;
         let from = links[p];
-        let u = wide_two(from);
-        let c = at.level.min(Pos2(capacities[size + u]));
-        if Pos2(label[u]).at_least(c) {
+        let u = from as usize;
+        let c = at.level.min(Pos(capacities[size + u]));
+        if Pos(label[u]).at_least(c) {
             continue;
         }
         // decided without a jump: what is stored past the stack or at mark 0 is never read
         label[u] = c.0;
         stack[top] = from;
         wait[mark_at(at.level, c)] = from + 1;
-        top += growth(at.level, c, at.x, Pos1(capacities[u]));
+        top += growth(at.level, c, at.x, Pos(capacities[u]));
     }
     top
 }

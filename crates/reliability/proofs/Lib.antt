@@ -1,3 +1,2 @@
 pub mod Rates
 pub mod Answers
-pub mod Linked

@@ -9,7 +9,7 @@ ghost use Rattle.soundness.specs.Tally.{rounds};
 ghost use Rattle.reliability.specs.Calls.{tally_s, rate_answer};
 ghost use Rattle.reliability.specs.Steps.{row_sum, rows_sum, Ratable};
 
-use answer::{Done, Rate, Rated, Refusal};
+use answer::{Rate, Refusal};
 use limits::MAX_CLASS;
 use soundness::{HEAD, ROUNDS};
 
@@ -68,19 +68,19 @@ fn rate_of(tally: &[u32], p1: u32, p2: u32) -> Rate
 }
 
 // The reliability of a tally at two chances: numbers 14, 21, 22 and 25, or S, M and R.
-pub fn reliability(tally: &[u32], p1: u32, p2: u32) -> Rated
+pub fn reliability(tally: &[u32], p1: u32, p2: u32) -> Result<Rate, Refusal>
     ensures { rated result ≡ rate_answer tally.now p1 p2 }
 {
     if (p1 > 1000000) | (p2 > 1000000) {
-        return Rated::Refused(Refusal::Probability);
+        return Err(Refusal::Probability);
     }
     match soundness::check(tally) {
-        Done::Refused(r) => Rated::Refused(r),
-        Done::Done => {
+        Err(r) => Err(r),
+        Ok(()) => {
             if tally[ROUNDS] == 0 {
-                return Rated::Refused(Refusal::NoRounds);
+                return Err(Refusal::NoRounds);
             }
-            Rated::Found(rate_of(tally, p1, p2))
+            Ok(rate_of(tally, p1, p2))
         }
     }
 }

@@ -12,7 +12,7 @@ ghost use Rattle.lines.specs.Text.{front_line};
 ghost use Rattle.lines.specs.Steps.{line_room, round_tally, Due, NextLine};
 ghost use Rattle.lines.specs.Report.{round_answer, round_line, report_opens, report_lines, line_at, SentOf};
 
-use answer::{Header, Opened, Refusal, Written};
+use answer::{Header, Refusal};
 use buffer::LONGEST;
 use lines::LINE;
 use output::Sent;
@@ -46,11 +46,11 @@ fn round_line(file: &[u8], round: usize, tally: &mut [u32], out: &mut [u8]) -> L
 {
     let mut record = [0u8; LONGEST];
     match search::search(file, round, &mut record) {
-        Written::Refused(r) => Line {
-            length: lines::refused_line(answer::number(r) as u64, out),
+        Err(r) => Line {
+            length: lines::refused_line(u32::from(r) as u64, out),
             more: false,
         },
-        Written::Bytes(n) => Line {
+        Ok(n) => Line {
             length: add_front(round, &record[..n], tally, out),
             more: true,
         },
@@ -110,11 +110,11 @@ fn report_study(
 const MAX_INPUT: usize = 65536;
 
 // Opens what was read.
-fn open_input(file: &[u8]) -> Opened
+fn open_input(file: &[u8]) -> Result<Header, Refusal>
     ensures { opened result ≡ report_opens file.now }
 {
     if MAX_INPUT < file.len() {
-        return Opened::Refused(Refusal::FileLength);
+        return Err(Refusal::FileLength);
     }
     study::open_study(file)
 }
@@ -126,7 +126,7 @@ fn report_refusal(rt: &impl Print, file: &[u8], refusal: Refusal, begun: Sent) -
     ensures { SentOf (report_lines file.now) result.lines result.whole }
 {
     let mut out = [0u8; LINE];
-    let n = lines::refused_line(answer::number(refusal) as u64, &mut out);
+    let n = lines::refused_line(u32::from(refusal) as u64, &mut out);
     output::write_line(rt, file, begun, &out[..n])
 }
 
@@ -136,8 +136,8 @@ fn report(rt: &impl Print, file: &[u8]) -> Sent
 {
     let begun = output::none();
     match open_input(file) {
-        Opened::Refused(r) => report_refusal(rt, file, r, begun),
-        Opened::Study(h) => {
+        Err(r) => report_refusal(rt, file, r, begun),
+        Ok(h) => {
             let mut tally = [0u32; LARGEST];
             let mut out = [0u8; LINE];
             tally::new(h.n1 as u32, h.n2 as u32, &mut tally);

@@ -7,9 +7,8 @@ ghost use Rattle.answer.specs.Outcome.{done};
 ghost use Rattle.soundness.specs.Tally.{state_answer};
 ghost use Rattle.soundness.specs.Steps.{cut, rises_by, sum_from, rows_rise, is_fair};
 
-use answer::{Done, Refusal};
+use answer::Refusal;
 use limits::{MAX_CLASS, MAX_ROUNDS};
-use slices::wide_word;
 
 // The words in front of the cells: n1, n2, M, score; and the places of M and of the score.
 pub const HEAD: usize = 4;
@@ -92,25 +91,25 @@ fn is_fair(cells: &[u32], n1: usize, n2: usize, m: u32, score: u32) -> bool
 }
 
 // Numbers 21 and 22: whether the slice has room for its cells, and the tally is sound.
-pub fn check(tally: &[u32]) -> Done
+pub fn check(tally: &[u32]) -> Result<(), Refusal>
     ensures { done result ≡ state_answer tally.now }
 {
     if tally.len() < HEAD {
-        return Done::Refused(Refusal::TallyShort);
+        return Err(Refusal::TallyShort);
     }
-    let n1 = wide_word(tally[0]);
-    let n2 = wide_word(tally[1]);
+    let n1 = tally[0] as usize;
+    let n2 = tally[1] as usize;
     if (n1 > MAX_CLASS) | (n2 > MAX_CLASS) {
-        return Done::Refused(Refusal::TallyUnsound);
+        return Err(Refusal::TallyUnsound);
     }
     if tally.len() < HEAD + (n1 + 1) * (n2 + 1) {
-        return Done::Refused(Refusal::TallyShort);
+        return Err(Refusal::TallyShort);
     }
     if tally[ROUNDS] > FULL {
-        return Done::Refused(Refusal::TallyUnsound);
+        return Err(Refusal::TallyUnsound);
     }
     if !is_fair(&tally[HEAD..], n1, n2, tally[ROUNDS], tally[SCORE]) {
-        return Done::Refused(Refusal::TallyUnsound);
+        return Err(Refusal::TallyUnsound);
     }
-    Done::Done
+    Ok(())
 }

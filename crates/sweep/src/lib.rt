@@ -9,10 +9,10 @@ ghost use Rattle.relax.specs.Steps.{Graph, graph_network};
 ghost use Rattle.sweep.specs.Steps.{Sweepable, Blank, NextIn};
 
 use buffer::LONGEST;
-use front::{Pair, Pos1, Pos2};
+use front::{Pair, Pos, Pos1, Pos2};
 use limits::MAX_POSITION;
 use relax::Step;
-use slices::{wide, wide_two};
+
 
 // Puts the pair, where its p2 is above the last.
 fn collect(found: &mut [u8; LONGEST], p: Pair, last: Pos2)
@@ -35,13 +35,13 @@ fn next_in(order: &[u16], label: &[u8], z: Pos1, last: Pos2) -> Pos1
 {
     let mut r = z.0;
     while 0 < r {
-        let v = wide_two(order[wide(r) - 1]);
-        if Pos2(label[v]).above(last) {
-            return Pos1(r);
+        let v = order[r as usize - 1] as usize;
+        if Pos(label[v]).above(last) {
+            return Pos(r);
         }
         r -= 1;
     }
-    Pos1(0)
+    Pos(0)
 }
 
 // The front record of a network, in a buffer. `begin` is the first step: x at the start, the target
@@ -62,20 +62,20 @@ pub fn sweep(
 {
     let mut wait = [0u16; MAX_POSITION + 1];
     let mut found = buffer::empty(order.len() as u8, n2);
-    let t = wide_two(begin.node);
+    let t = begin.node as usize;
     label[t] = capacities[capacities.len() / 2 + t];
     let mut x = begin.x;
     let mut node = begin.node;
-    let mut last = Pos2(0);
+    let mut last = Pos(0);
     loop {
-        let at = relax::step_to(begin, x, Pos2(label[wide_two(node)]), node, 0);
+        let at = relax::step_to(begin, x, Pos(label[node as usize]), node, 0);
         labels::flood(capacities, links, at, label, stack, &mut wait);
         let s = begin.source;
-        let y = Pos2(label[s]);
+        let y = Pos(label[s]);
         collect(&mut found, Pair { p1: x, p2: y }, last);
         last = y;
-        x = next_in(order, label, Pos1(x.0 - 1), y);
-        let place = wide(x.0);
+        x = next_in(order, label, Pos(x.0 - 1), y);
+        let place = x.0 as usize;
         if place == 0 {
             return found;
         }

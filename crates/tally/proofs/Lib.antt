@@ -6,4 +6,3 @@ pub mod Changes
 pub mod Edges
 pub mod Runs
 pub mod Scores
-pub mod Linked

@@ -8,9 +8,8 @@ ghost use Rattle.cells.specs.Steps.{changed_word, CanChange};
 ghost use Rattle.tally.specs.Calls.{new_answer, new_out, fits_tally, add_answer, add_out, removable, remove_answer, remove_out, score_answer};
 ghost use Rattle.tally.specs.Steps.{ready_answer, Changing, changed_tally};
 
-use answer::{Done, Refusal, Scored};
+use answer::Refusal;
 use limits::MAX_CLASS;
-use slices::wide_word;
 use soundness::{FULL, HEAD, ROUNDS, SCORE};
 
 // ---- new
@@ -27,23 +26,23 @@ fn clear(words: &mut [u32], n: usize)
 }
 
 // A tally of no rounds for the class sizes: numbers 6 and 21.
-pub fn new(n1: u32, n2: u32, tally: &mut [u32]) -> Done
+pub fn new(n1: u32, n2: u32, tally: &mut [u32]) -> Result<(), Refusal>
     ensures answer { done result ≡ new_answer n1 n2 (length tally.old) }
     ensures slice { tally.new ≡ new_out n1 n2 tally.old }
 {
-    let a = wide_word(n1);
-    let b = wide_word(n2);
+    let a = n1 as usize;
+    let b = n2 as usize;
     if (a > MAX_CLASS) | (b > MAX_CLASS) {
-        return Done::Refused(Refusal::ClassSize);
+        return Err(Refusal::ClassSize);
     }
     let n = HEAD + (a + 1) * (b + 1);
     if tally.len() < n {
-        return Done::Refused(Refusal::TallyShort);
+        return Err(Refusal::TallyShort);
     }
     clear(tally, n);
     tally[0] = n1;
     tally[1] = n2;
-    Done::Done
+    Ok(())
 }
 
 // ---- what add and remove share
@@ -73,51 +72,51 @@ fn same_sizes(record: &[u8], tally: &[u32]) -> bool
     ensures { result ≡ fits_tally «record».now tally.now }
 {
     let head = record::read_head(record);
-    let same1 = slices::wide(head.n1) == wide_word(tally[0]);
-    let same2 = slices::wide(head.n2) == wide_word(tally[1]);
+    let same1 = head.n1 as usize == tally[0] as usize;
+    let same2 = head.n2 as usize == tally[1] as usize;
     same1 & same2
 }
 
 // What both test first: numbers 12 and 21 to 23.
-fn ready(record: &[u8], tally: &[u32]) -> Done
+fn ready(record: &[u8], tally: &[u32]) -> Result<(), Refusal>
     ensures { done result ≡ ready_answer «record».now tally.now }
 {
     if !record::is_record(record) {
-        return Done::Refused(Refusal::NotRecord);
+        return Err(Refusal::NotRecord);
     }
     match soundness::check(tally) {
-        Done::Refused(r) => Done::Refused(r),
-        Done::Done => {
+        Err(r) => Err(r),
+        Ok(()) => {
             if !same_sizes(record, tally) {
-                return Done::Refused(Refusal::TallySizes);
+                return Err(Refusal::TallySizes);
             }
-            Done::Done
+            Ok(())
         }
     }
 }
 
 // ---- add
 // Adds a front record that is ready: number 24.
-fn add_to(record: &[u8], tally: &mut [u32]) -> Done
+fn add_to(record: &[u8], tally: &mut [u32]) -> Result<(), Refusal>
     requires { ready_answer «record».now tally.old ≡ success (0 ∷ []) }
     ensures answer { done result ≡ add_answer «record».now tally.old }
     ensures slice { tally.new ≡ add_out «record».now tally.old }
 {
     if tally[ROUNDS] == FULL {
-        return Done::Refused(Refusal::TallyFull);
+        return Err(Refusal::TallyFull);
     }
     change(record, tally, 1, 0);
-    Done::Done
+    Ok(())
 }
 
 // Adds a front record: M, and each cell where it holds, raised by 1; numbers 12 and 21 to 24.
-pub fn add(record: &[u8], tally: &mut [u32]) -> Done
+pub fn add(record: &[u8], tally: &mut [u32]) -> Result<(), Refusal>
     ensures answer { done result ≡ add_answer «record».now tally.old }
     ensures slice { tally.new ≡ add_out «record».now tally.old }
 {
     match ready(record, tally) {
-        Done::Refused(r) => Done::Refused(r),
-        Done::Done => add_to(record, tally),
+        Err(r) => Err(r),
+        Ok(()) => add_to(record, tally),
     }
 }
 
@@ -134,37 +133,37 @@ fn can_remove(record: &[u8], tally: &[u32]) -> bool
 }
 
 // Removes a front record that is ready: number 31.
-fn remove_from(record: &[u8], tally: &mut [u32]) -> Done
+fn remove_from(record: &[u8], tally: &mut [u32]) -> Result<(), Refusal>
     requires { ready_answer «record».now tally.old ≡ success (0 ∷ []) }
     ensures answer { done result ≡ remove_answer «record».now tally.old }
     ensures slice { tally.new ≡ remove_out «record».now tally.old }
 {
     if !can_remove(record, tally) {
-        return Done::Refused(Refusal::NotRemovable);
+        return Err(Refusal::NotRemovable);
     }
     change(record, tally, 0, 1);
-    Done::Done
+    Ok(())
 }
 
 // Removes a front record: M, and each cell where it holds, lowered by 1; numbers 12, 21 to 23 and 31.
-pub fn remove(record: &[u8], tally: &mut [u32]) -> Done
+pub fn remove(record: &[u8], tally: &mut [u32]) -> Result<(), Refusal>
     ensures answer { done result ≡ remove_answer «record».now tally.old }
     ensures slice { tally.new ≡ remove_out «record».now tally.old }
 {
     match ready(record, tally) {
-        Done::Refused(r) => Done::Refused(r),
-        Done::Done => remove_from(record, tally),
+        Err(r) => Err(r),
+        Ok(()) => remove_from(record, tally),
     }
 }
 
 // ---- score
 // The sum of all cells, as its word has it: no cell is read, and soundness is not tested. Number 21
 // below the words of the head.
-pub fn score(tally: &[u32]) -> Scored
+pub fn score(tally: &[u32]) -> Result<u32, Refusal>
     ensures { scored result ≡ score_answer tally.now }
 {
     if tally.len() < HEAD {
-        return Scored::Refused(Refusal::TallyShort);
+        return Err(Refusal::TallyShort);
     }
-    Scored::Score(tally[SCORE])
+    Ok(tally[SCORE])
 }

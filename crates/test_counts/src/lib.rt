@@ -4,31 +4,31 @@
 
 ghost use Rattle.std.specs.Prelude.{◌≤◌};
 
-use answer::{Done, Opened, Written};
+use answer::{Header, Refusal};
 use std::io;
 use test_files::Judged;
 use test_support::field;
 
 // ---- answers: the number of a refusal, 0 for a success
-pub fn opened(o: Opened) -> usize {
+pub fn opened(o: Result<Header, Refusal>) -> usize {
     match o {
-        Opened::Study(_) => 0,
-        Opened::Refused(r) => answer::number(r) as usize,
+        Ok(_) => 0,
+        Err(r) => u32::from(r) as usize,
     }
 }
 
-pub fn done(d: Done) -> usize {
+pub fn done(d: Result<(), Refusal>) -> usize {
     match d {
-        Done::Done => 0,
-        Done::Refused(r) => answer::number(r) as usize,
+        Ok(()) => 0,
+        Err(r) => u32::from(r) as usize,
     }
 }
 
 // 1000 and the length written, or the number of a refusal.
-pub fn written(w: Written) -> usize {
+pub fn written(w: Result<usize, Refusal>) -> usize {
     match w {
-        Written::Bytes(n) => 1000 + n % 100000,
-        Written::Refused(r) => answer::number(r) as usize,
+        Ok(n) => 1000 + n % 100000,
+        Err(r) => u32::from(r) as usize,
     }
 }
 

@@ -2,7 +2,7 @@
 // and counts.
 ghost use Rattle.std.specs.Prelude.{◌≤◌};
 
-use answer::Written;
+use answer::Refusal;
 use test_support::{byte, poke};
 
 // Eight records, eight tables, and 64 ways.
@@ -13,17 +13,17 @@ pub const WAYS: usize = 35080;
 pub const FOUND: usize = 35144;
 
 // The length written; 0 on a refusal.
-pub fn length_of(w: Written) -> usize
+pub fn length_of(w: Result<usize, Refusal>) -> usize
     ensures { result ≤ 8192 }
 {
     match w {
-        Written::Bytes(n) => {
+        Ok(n) => {
             if n > 8192 {
                 return 0;
             }
             n
         }
-        Written::Refused(_) => 0,
+        Err(_) => 0,
     }
 }
 

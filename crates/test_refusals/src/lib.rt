@@ -15,7 +15,7 @@
 
 ghost use Rattle.std.specs.Prelude.{◌+◌, ◌≤◌, ◌<◌, IfOk};
 
-use answer::{Aged, Done, Opened, Rated, Scored, Written};
+use answer::{Header, Refusal};
 use std::io;
 use test_support::{byte, equal, field, fields, flag, part, poke, put, word};
 
@@ -153,46 +153,46 @@ fn words_kept(case: &[u32], at: usize, words: &[u32]) -> bool {
 }
 
 // ---- answers: a refusal's number, 0 for a success
-fn written(w: Written) -> u64 {
+fn written(w: Result<usize, Refusal>) -> u64 {
     match w {
-        Written::Bytes(_) => 0,
-        Written::Refused(r) => answer::number(r) as u64,
+        Ok(_) => 0,
+        Err(r) => u32::from(r) as u64,
     }
 }
 
-fn done(d: Done) -> u64 {
+fn done(d: Result<(), Refusal>) -> u64 {
     match d {
-        Done::Done => 0,
-        Done::Refused(r) => answer::number(r) as u64,
+        Ok(()) => 0,
+        Err(r) => u32::from(r) as u64,
     }
 }
 
-fn opened(o: Opened) -> u64 {
+fn opened(o: Result<Header, Refusal>) -> u64 {
     match o {
-        Opened::Study(_) => 0,
-        Opened::Refused(r) => answer::number(r) as u64,
+        Ok(_) => 0,
+        Err(r) => u32::from(r) as u64,
     }
 }
 
-fn aged(a: Aged) -> u64 {
+fn aged(a: Result<u32, Refusal>) -> u64 {
     match a {
-        Aged::Chance(_) => 0,
-        Aged::Refused(r) => answer::number(r) as u64,
+        Ok(_) => 0,
+        Err(r) => u32::from(r) as u64,
     }
 }
 
 // A score that is not the word counts as a refusal of no number.
-fn scored(s: Scored, due: u64) -> u64 {
+fn scored(s: Result<u32, Refusal>, due: u64) -> u64 {
     match s {
-        Scored::Score(n) => CHANGED * flag(n as u64 != due),
-        Scored::Refused(r) => answer::number(r) as u64,
+        Ok(n) => CHANGED * flag(n as u64 != due),
+        Err(r) => u32::from(r) as u64,
     }
 }
 
-fn rated(r: Rated) -> u64 {
+fn rated(r: Result<Rate, Refusal>) -> u64 {
     match r {
-        Rated::Found(_) => 0,
-        Rated::Refused(why) => answer::number(why) as u64,
+        Ok(_) => 0,
+        Err(why) => u32::from(why) as u64,
     }
 }
 

@@ -4,7 +4,7 @@
 
 ghost use Rattle.std.specs.Prelude.{◌≤◌, ◌<◌};
 
-use answer::{Aged, Done, Rate, Rated, Scored};
+use answer::{Rate, Refusal};
 use test_exact::Quotient;
 use test_support::{byte, flag, part, pick, put, times, word};
 
@@ -14,12 +14,12 @@ pub const RATES: u64 = 4;
 pub const AGES: u64 = 31;
 
 // ---- tallies
-fn refused(d: Done) -> u64
+fn refused(d: Result<(), Refusal>) -> u64
     ensures { result ≤ 1 }
 {
     match d {
-        Done::Done => 0,
-        Done::Refused(_) => 1,
+        Ok(()) => 0,
+        Err(_) => 1,
     }
 }
 
@@ -113,12 +113,12 @@ fn differ(n1: usize, n2: usize, cells: &[u8], words: &[u32]) -> u64
 }
 
 // 1 where the score is not the sum that removal testing finds.
-fn score_wrong(s: Scored, due: u64) -> u64
+fn score_wrong(s: Result<u32, Refusal>, due: u64) -> u64
     ensures { result ≤ 1 }
 {
     match s {
-        Scored::Score(n) => flag(n as u64 != due),
-        Scored::Refused(_) => 1,
+        Ok(n) => flag(n as u64 != due),
+        Err(_) => 1,
     }
 }
 
@@ -140,13 +140,13 @@ fn aged(age: u64) -> u64
     ensures { result ≤ 1000000 }
 {
     match weights::ageing(age) {
-        Aged::Chance(p) => {
+        Ok(p) => {
             if p > 1000000 {
                 return 0;
             }
             p as u64
         }
-        Aged::Refused(_) => 0,
+        Err(_) => 0,
     }
 }
 
@@ -200,13 +200,13 @@ fn within(k: Rate, n: usize, e: Quotient) -> bool
         & (e.whole < below)
 }
 
-fn rate_wrong(r: Rated, n: usize, e: Quotient) -> u64
+fn rate_wrong(r: Result<Rate, Refusal>, n: usize, e: Quotient) -> u64
     requires { n ≤ 128 }
     ensures { result ≤ 1 }
 {
     match r {
-        Rated::Refused(_) => 1,
-        Rated::Found(k) => flag(!within(k, n, e)),
+        Err(_) => 1,
+        Ok(k) => flag(!within(k, n, e)),
     }
 }
 

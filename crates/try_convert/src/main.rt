@@ -10,7 +10,6 @@ mod made;
 
 ghost use Rattle.std.specs.Prelude.{◌≤◌, length};
 
-use answer::Opened;
 use std::io;
 use test_counts::{PER_CALL, WRONG, count, counted, judged, opened, row, written};
 use test_studies::some;
@@ -96,7 +95,7 @@ fn try_opening(file: &[u8], counts: &mut [u64])
     let want = test_files::opening(file);
     let got = study::open_study(file);
     let mut right = opened(got) == want.first;
-    if let Opened::Study(h) = got {
+    if let Ok(h) = got {
         let nodes = test_files::nodes_of(file);
         let arcs = test_files::arcs_of(file);
         right = right

@@ -5,7 +5,7 @@
 mod cases;
 mod plain;
 
-use answer::Written;
+use answer::Refusal;
 use std::io;
 use test_support::line;
 
@@ -20,16 +20,16 @@ struct Counts {
     wrong: u64,
 }
 
-fn answer_of(w: Written) -> u64 {
+fn answer_of(w: Result<usize, Refusal>) -> u64 {
     match w {
         // More than a slice here can hold is an answer that nothing expects.
-        Written::Bytes(n) => {
+        Ok(n) => {
             if n > 160 {
                 return 0;
             }
             1000 + n as u64
         }
-        Written::Refused(r) => answer::number(r) as u64,
+        Err(r) => u32::from(r) as u64,
     }
 }
 

@@ -7,7 +7,7 @@ mod features;
 
 ghost use Rattle.std.specs.Prelude.{◌≤◌, ◌<◌, length};
 
-use answer::Opened;
+use answer::{Header, Refusal};
 use std::io;
 use test_networks::Shape;
 use test_plans::slots;
@@ -154,10 +154,10 @@ fn try_rounds(
 }
 
 // ---- studies
-fn opens(opened: Opened, arcs: usize, c: Case) -> bool {
+fn opens(opened: Result<Header, Refusal>, arcs: usize, c: Case) -> bool {
     match opened {
-        Opened::Refused(_) => false,
-        Opened::Study(h) => {
+        Err(_) => false,
+        Ok(h) => {
             (h.nodes == c.net.nodes)
                 & (h.arcs == arcs)
                 & (h.rounds == 8)

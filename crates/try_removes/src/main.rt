@@ -4,7 +4,7 @@
 
 ghost use Rattle.std.specs.Prelude.{◌≤◌, ◌<◌};
 
-use answer::{Done, Scored};
+use answer::Refusal;
 use std::io;
 use test_support::{byte, equal, flag, line, part, pick, poke, put, word};
 use test_tallies::{
@@ -98,12 +98,12 @@ fn show(
 }
 
 // ---- one call
-fn number(d: Done) -> u64
+fn number(d: Result<(), Refusal>) -> u64
     ensures { result ≤ 4294967295 }
 {
     match d {
-        Done::Done => 0,
-        Done::Refused(r) => answer::number(r) as u64,
+        Ok(()) => 0,
+        Err(r) => u32::from(r) as u64,
     }
 }
 
@@ -164,8 +164,8 @@ fn blame(up: bool, number: u64, words: &[u32], counts: &mut [u64]) {
 // The score, or a refusal's number.
 fn scored(words: &[u32]) -> u64 {
     match tally::score(words) {
-        Scored::Score(n) => n as u64,
-        Scored::Refused(r) => REFUSED + answer::number(r) as u64,
+        Ok(n) => n as u64,
+        Err(r) => REFUSED + u32::from(r) as u64,
     }
 }
 

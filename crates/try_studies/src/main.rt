@@ -7,7 +7,7 @@ mod edges;
 
 ghost use Rattle.std.specs.Prelude.{◌≤◌, length};
 
-use answer::{Header, Opened};
+use answer::Header;
 use std::io;
 use test_counts::{PER_CALL, WRONG, count, counted, done, judged, opened, row, written};
 use test_files::Numbers;
@@ -49,7 +49,7 @@ fn try_open(file: &[u8], counts: &mut [u64])
     let want = test_files::opening(file);
     let got = study::open_study(file);
     let mut right = opened(got) == want.first;
-    if let Opened::Study(h) = got {
+    if let Ok(h) = got {
         right = right & told(file, h);
     }
     judged(counts, OPENING, want, right);

@@ -4,7 +4,7 @@
 
 ghost use Rattle.std.specs.Prelude.{◌≤◌, ◌<◌, length};
 
-use answer::{Aged, Done, Rate, Rated};
+use answer::{Rate, Refusal};
 use std::io;
 use test_support::{line, pick, poke, put, word};
 use test_tallies::{DOWN, HEAD, PAST, SCORE, Sizes, UP, copy, junk, record_of};
@@ -99,10 +99,10 @@ fn show(rt: &impl Print, title: &[u8], counts: &[u64], base: u64) -> io::Result<
 }
 
 // ---- slices of words
-fn number(d: Done) -> u64 {
+fn number(d: Result<(), Refusal>) -> u64 {
     match d {
-        Done::Done => 0,
-        Done::Refused(r) => answer::number(r) as u64,
+        Ok(()) => 0,
+        Err(r) => u32::from(r) as u64,
     }
 }
 
@@ -268,10 +268,10 @@ fn rate_is(k: Rate, t: &[u32], p1: u64, p2: u64) -> bool {
     (k.rounds == word(t, 2)) & (k.rate == k.sum / (m * 10000000)) & sum_is(t, p1, p2, k.sum)
 }
 
-fn rated(r: Rated, t: &[u32], p1: u64, p2: u64, due: u64) -> bool {
+fn rated(r: Result<Rate, Refusal>, t: &[u32], p1: u64, p2: u64, due: u64) -> bool {
     match r {
-        Rated::Refused(why) => answer::number(why) as u64 == due,
-        Rated::Found(k) => (due == 0) & rate_is(k, t, p1, p2),
+        Err(why) => u32::from(why) as u64 == due,
+        Ok(k) => (due == 0) & rate_is(k, t, p1, p2),
     }
 }
 
@@ -346,8 +346,8 @@ fn show_age(rt: &impl Print, age: u64) -> io::Result<()> {
     rt.write_all(b"  ")?;
     print!(rt; "{age}")?;
     match weights::ageing(age) {
-        Aged::Chance(p) => line(rt, b" ", p as u64),
-        Aged::Refused(r) => line(rt, b" refused ", answer::number(r) as u64),
+        Ok(p) => line(rt, b" ", p as u64),
+        Err(r) => line(rt, b" refused ", u32::from(r) as u64),
     }
 }
 

@@ -6,7 +6,7 @@ ghost use Rattle.answer.specs.Outcome.{done, aged};
 ghost use Rattle.chance.specs.Chance.{sends, spread, weights};
 ghost use Rattle.weights.specs.Calls.{weights_answer, weights_out, ageing_answer};
 
-use answer::{Aged, Done, Refusal};
+use answer::Refusal;
 use limits::MAX_CLASS;
 
 // ---- weights
@@ -52,32 +52,32 @@ pub fn fill(p: u32, n: usize, out: &mut [u32])
 }
 
 // The weights for n nodes at the chance p: numbers 6, 14 and 15.
-pub fn weights(n: u32, p: u32, out: &mut [u32]) -> Done
+pub fn weights(n: u32, p: u32, out: &mut [u32]) -> Result<(), Refusal>
     ensures answer { done result ≡ weights_answer n p (length out.old) }
     ensures slice { out.new ≡ weights_out n p out.old }
 {
     if n > MOST {
-        return Done::Refused(Refusal::ClassSize);
+        return Err(Refusal::ClassSize);
     }
     if p > 1000000 {
-        return Done::Refused(Refusal::Probability);
+        return Err(Refusal::Probability);
     }
     let k = n as usize;
     if out.len() < k + 1 {
-        return Done::Refused(Refusal::OutputShort);
+        return Err(Refusal::OutputShort);
     }
     fill(p, k, out);
-    Done::Done
+    Ok(())
 }
 
 // ---- ageing
 // The chance that a node of that age in years works, in millionths: number 14. The test comes first, so that no product meets a large age.
-pub fn ageing(age: u64) -> Aged
+pub fn ageing(age: u64) -> Result<u32, Refusal>
     ensures { aged result ≡ ageing_answer age }
 {
     if age > 30 {
-        return Aged::Refused(Refusal::Probability);
+        return Err(Refusal::Probability);
     }
     let y = age as u32;
-    Aged::Chance(1000000 - 1000 * (y * y))
+    Ok(1000000 - 1000 * (y * y))
 }
