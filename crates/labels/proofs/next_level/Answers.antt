@@ -1,8 +1,7 @@
 -- `labels::next_level` goes down from the level: no level above m waits.
-use mathlib.Core.Path.{sym, ap, ◌∙◌}
+use mathlib.Core.Path.{sym, ◌∙◌}
 use Prim.Native.Nat.{◌<◌}
 use native.Mathlib.Omega.{arith}
-use lib.ListN.{get_or}
 use borrow.Author.Tests.{ltb-true, ltb-false}
 use Rattle.labels.proofs.Drains.{sought, sought-none, seek-on}
 use Rattle.labels.proofs.next_level.Goals as goal
