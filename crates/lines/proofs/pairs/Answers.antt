@@ -42,7 +42,7 @@ loop-i-preserved c =
     let r = c.args.«record».now in
     let q = c.pair_at in
     let p = c.pair-end in
-    let i = pair-in r ((record_is r).0 c.requires.2) false l.i (omega (arith, l.invariant.2)) in (
+    let i = pair-in r ((record_is r).0 c.requires.2) l.i (omega (arith, l.invariant.2)) in (
       writing-next pair_text (listed r) c.args.at 42 c.args.out.now (omega (arith, c.requires)) l.invariant.0 i.2 q.result (pair_of 0 0) (q.ensures ∙ i.0) (omega (arith, near, c.requires)) p.ensures.end.0 p.ensures.end.1 p.ensures.slice,
       omega arith,
       l.invariant.2,
