@@ -1,11 +1,42 @@
-// How often each number applied, alone and with another that applied too.
+// Answers of calls against a plain reading; how often each number applied, alone and with another
+// that applied too.
 #![tactic(auto)]
 
-ghost use Rattle.std.specs.Prelude.{◌<◌};
+ghost use Rattle.std.specs.Prelude.{◌≤◌, ◌<◌, length};
 
+use answer::{Header, Refusal};
 use std::io;
-use test_files::Judged;
+use test_files::{Judged, Trailer, arcs_of, members, nodes_of, wrote};
 
+// ---- answers
+// Whether opening answered what is due, and a success tells what the file does.
+pub fn opened_right(file: &[u8], due: Judged, got: Result<Header, Refusal>) -> bool
+    requires { length file.now ≤ 10000 }
+{
+    let h = match got {
+        Ok(h) => h,
+        Err(r) => return due.first == Some(u32::from(r)),
+    };
+    let t = Trailer::of(file);
+    let k = t.numbers;
+    let n1 = members(nodes_of(file), arcs_of(file), 1);
+    let n2 = members(nodes_of(file), arcs_of(file), 2);
+    due.first.is_none()
+        && [h.nodes, h.arcs, h.rounds] == [t.nodes, k.arcs, k.rounds]
+        && [h.source, h.target] == [k.source, k.target]
+        && [h.n1, h.n2] == [n1, n2]
+}
+
+// Whether a call that writes a file answered what is due: a success wrote these bytes alone, a refusal
+// none.
+pub fn wrote_right(bytes: &[u8], due: Judged, got: Result<usize, Refusal>, out: &[u8]) -> bool {
+    match got {
+        Ok(n) => due.first.is_none() && n == bytes.len() && wrote(out, bytes),
+        Err(r) => due.first == Some(u32::from(r)) && wrote(out, b""),
+    }
+}
+
+// ---- counts
 // A number above each of document 01's and 02's.
 const NUMBERS: usize = 40;
 

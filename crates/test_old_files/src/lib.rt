@@ -2,7 +2,8 @@
 // of node numbers, and of the converter. Trailer and nodes are read as in new files.
 #![tactic(auto)]
 
-ghost use Rattle.std.specs.Prelude.{◌≤◌, length};
+ghost use Rattle.std.specs.Prelude.{◌≤◌, length, IfSome};
+ghost use Rattle.arrayvec.specs.ArrayVec.{array_vec_len};
 
 use arrayvec::ArrayVec;
 use test_files::{
@@ -83,6 +84,7 @@ pub fn with_kinds(arcs: &[u8]) -> ArrayVec<u8, 3072> {
 // The new file of an old one that is good; none where it is too long.
 pub fn convert(file: &[u8]) -> Option<File>
     requires { length file.now ≤ 10000 }
+    ensures { IfSome result (λ f. 32 ≤ array_vec_len f) }
 {
     let nodes = nodes_of(file);
     let arcs = with_kinds(arcs_of(file));

@@ -7,11 +7,10 @@ mod edges;
 
 ghost use Rattle.std.specs.Prelude.{◌≤◌, length};
 
-use answer::Header;
 use std::io;
 use test_answers::number;
-use test_counts::{Answers, tick};
-use test_files::{Sections, Trailer, UNTOUCHED, arcs_of, members, nodes_of, wrote};
+use test_counts::{Answers, opened_right, tick, wrote_right};
+use test_files::{Sections, UNTOUCHED};
 use test_studies::{Study, damaged_file, some};
 
 // ---- counts
@@ -50,56 +49,38 @@ struct Counts {
 }
 
 // ---- calls
-// Whether a header says what the file does.
-fn told(file: &[u8], h: Header) -> bool
-    requires { length file.now ≤ 10000 }
-{
-    let t = Trailer::of(file);
-    let k = t.numbers;
-    let nodes = nodes_of(file);
-    let arcs = arcs_of(file);
-    [h.nodes, h.arcs, h.rounds, h.source, h.target]
-        == [t.nodes, k.arcs, k.rounds, k.source, k.target]
-        && h.n1 == members(nodes, arcs, 1)
-        && h.n2 == members(nodes, arcs, 2)
-}
-
 // Opening, and the seven values of a success.
 fn try_open(file: &[u8], counts: &mut Counts)
     requires { length file.now ≤ 10000 }
 {
-    let want = test_files::opening(file);
-    let right = match study::open_study(file) {
-        Ok(h) => want.first.is_none() && told(file, h),
-        Err(r) => want.first == Some(u32::from(r)),
-    };
-    counts.opening.judge(want, right, &mut counts.wrong);
+    let due = test_files::opening(file);
+    let right = opened_right(file, due, study::open_study(file));
+    counts.opening.judge(due, right, &mut counts.wrong);
 }
 
 // Both calls of lookup.
 fn try_round(file: &[u8], round: usize, counts: &mut Counts)
     requires { length file.now ≤ 10000 }
 {
-    let want = test_files::check(file, round);
-    let got = number(study::check_round(file, round));
-    let bytes = study::round_bytes(file, round);
-    let due = if want.first.is_none() {
+    let due = test_files::check(file, round);
+    let bytes = if due.first.is_none() {
         test_files::round(file, round)
     } else {
         b""
     };
-    let right = got == want.first && bytes == due;
-    counts.lookup.judge(want, right, &mut counts.wrong);
+    let right = number(study::check_round(file, round)) == due.first
+        && study::round_bytes(file, round) == bytes;
+    counts.lookup.judge(due, right, &mut counts.wrong);
 }
 
 // The writer into a slice of this room, and every byte behind it.
 fn try_write(s: Sections<'_>, short: usize, counts: &mut Counts)
     requires { short ≤ 100 }
 {
-    let want = test_files::file(s, 0);
+    let file = test_files::file(s, 0);
     // One byte short, exactly long enough, or longer.
-    let room = want.len() + short - 1;
-    let j = test_files::given(s).note(room < want.len(), 15);
+    let room = file.len() + short - 1;
+    let due = test_files::given(s).note(room < file.len(), 15);
     let k = s.numbers;
     let mut out = [UNTOUCHED; 8192];
     let got = writer::write_study(
@@ -111,11 +92,8 @@ fn try_write(s: Sections<'_>, short: usize, counts: &mut Counts)
         k.rounds,
         &mut out[..room],
     );
-    let right = match got {
-        Ok(n) => j.first.is_none() && n == want.len() && wrote(&out, &want),
-        Err(r) => j.first == Some(u32::from(r)) && wrote(&out, b""),
-    };
-    counts.writer.judge(j, right, &mut counts.wrong);
+    let right = wrote_right(&file, due, got, &out);
+    counts.writer.judge(due, right, &mut counts.wrong);
 }
 
 // Opening, and lookup of the first round, of some round, of the one past the last, of the largest.
