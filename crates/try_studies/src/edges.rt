@@ -122,7 +122,7 @@ fn try_sizes(rt: &impl Print, wrong: &mut u64) -> io::Result<()> {
         let arcs = entries(&[0, 1, if class == 1 { 1 } else { 5 }]);
         print!(rt; "class {class} nodes {x} arcs {y}")?;
         let arcs = piece(&arcs, 0, 3 * usize::from(y));
-        tries(rt, &nodes[..160], arcs, 0, u32::from(due), wrong)?;
+        tries(rt, piece(&nodes, 0, 160), arcs, 0, u32::from(due), wrong)?;
     }
     Ok(())
 }
@@ -165,7 +165,7 @@ fn try_arcs(rt: &impl Print, wrong: &mut u64) -> io::Result<()> {
         nodes[159] = class;
         show_bytes(rt, "arcs", &arcs)?;
         print!(rt; ", {ones} nodes of class 1, the last of class {class}")?;
-        tries(rt, &nodes[..160], &arcs, 0, due, wrong)?;
+        tries(rt, piece(&nodes, 0, 160), &arcs, 0, due, wrong)?;
     }
     Ok(())
 }
