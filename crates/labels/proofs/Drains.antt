@@ -6,7 +6,6 @@ use Prim.Native.Nat.{ℕ, zero, suc, ◌+◌, ◌-◌, ◌≤◌, ◌<◌}
 use native.Mathlib.Omega.{arith}
 use lib.ListN.{length, get_or, set, length-set}
 use lib.Seq.{get_or-set_same, get_or-set_other}
-use Rattle.limits.specs.Limits.{max_position}
 use Rattle.laws.specs.Tests.{order, equal}
 use Rattle.front.specs.declared.pos.Pos.{Pos}
 use Rattle.chains.specs.Steps.{to_at, head_at, Linked}

@@ -24,7 +24,11 @@ fn drain(net: Net, at: Step, label: &mut [u8], stack: &mut [u16], wait: &mut [u1
             return;
         }
         let k = top - 1;
-        let next = Step { node: stack[k], top: k, ..at };
+        let next = Step {
+            node: stack[k],
+            top: k,
+            ..at
+        };
         top = spread(net, next, label, stack, wait);
     }
 }
@@ -53,7 +57,12 @@ pub fn flood(net: Net, begin: Step, label: &mut [u8], stack: &mut [u16], wait: &
     let mut level = begin.level;
     let mut node = begin.node;
     loop {
-        let at = Step { level, node, top: 0, ..begin };
+        let at = Step {
+            level,
+            node,
+            top: 0,
+            ..begin
+        };
         drain(net, at, label, stack, wait);
         let Some(next) = next_level(wait, level, Pos(label[begin.source])) else {
             return;

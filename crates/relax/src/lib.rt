@@ -45,13 +45,7 @@ fn growth(level: Pos2, c: Pos2, x: Pos1, entry: Pos1) -> usize
 }
 
 // The labels of the nodes with an arc into the node at work, raised to what its level gives them.
-pub fn spread(
-    net: Net,
-    at: Step,
-    label: &mut [u8],
-    stack: &mut [u16],
-    wait: &mut [u16],
-) -> usize
+pub fn spread(net: Net, at: Step, label: &mut [u8], stack: &mut [u16], wait: &mut [u16]) -> usize
     requires { (f : Graph) × Ready f net at label.old stack.old wait.old }
     ensures work { (f : Graph) → Ready f net.entry at label.old stack.old wait.old
         → Work f (at.x.0 - 1) at.level.0 label.new stack.new wait.new result at.node 0 }

@@ -64,7 +64,13 @@ pub fn sweep(
     let mut node = begin.node;
     let mut last = Pos(0);
     loop {
-        let at = Step { x, level: Pos(label[node as usize]), node, top: 0, ..begin };
+        let at = Step {
+            x,
+            level: Pos(label[node as usize]),
+            node,
+            top: 0,
+            ..begin
+        };
         labels::flood(net, at, label, stack, &mut wait);
         let y = Pos(label[begin.source]);
         collect(&mut found, Pair { p1: x, p2: y }, last);
