@@ -1,4 +1,4 @@
--- `compose::merge_series`: the buffer has collected all minima but those of the pairs that are left (`Merging both min`).
+-- `compose::merge_series`: the record has collected all minima but those of the pairs that are left (`Merging both min`).
 use mathlib.Core.Path.{sym, ◌∙◌}
 use mathlib.Core.Logic.{inl, inr}
 use native.Mathlib.Nat.{le_of_lt}
@@ -14,8 +14,8 @@ loop-i-init c =
     let m = count-is c.args.right.now c.requires.right_is c.read_head-m.ensures.2 in
     (merging-none c.requires l.0 l.1 c.empty-joined.ensures, k.0, m.0, k.1, m.1)
 
-pub returns-then-m-j : goal.returns-then-m-j
-returns-then-m-j c = series-done c.loop-i.invariant.0 (inr (omega arith))
+pub returns-else-j-m : goal.returns-else-j-m
+returns-else-j-m c = series-done c.loop-i.invariant.0 (inr (omega arith))
 
 pub put-requires : goal.put-requires
 put-requires c =
@@ -27,14 +27,14 @@ loop-i-preserved-then-at_least c =
     let l = c.loop-i in
     let p-is = pair_is c.args.left.now c.requires.left_is l.i c.pair_at-p.ensures in
     let q-is = pair_is c.args.right.now c.requires.right_is l.j c.pair_at-q.ensures in
-    (series-left l.invariant.0 (omega arith) (omega arith) p-is q-is c.min.ensures (c.put.ensures.long, c.put.ensures.front) (leb-true _ _ (sym c.at_least.ensures ∙ c.if-at_least.true)), l.invariant.1, l.invariant.2, l.invariant.3, l.invariant.4)
+    (series-left l.invariant.0 (omega arith) (omega arith) p-is q-is c.min.ensures c.put.ensures (leb-true _ _ (sym c.at_least.ensures ∙ c.if-at_least.true)), l.invariant.1, l.invariant.2, l.invariant.3, l.invariant.4)
 
 pub loop-i-preserved : goal.loop-i-preserved
 loop-i-preserved c =
     let l = c.loop-i in
     let p-is = pair_is c.args.left.now c.requires.left_is l.i c.pair_at-p.ensures in
     let q-is = pair_is c.args.right.now c.requires.right_is l.j c.pair_at-q.ensures in
-    (series-right l.invariant.0 (omega arith) (omega arith) p-is q-is c.min.ensures (c.put.ensures.long, c.put.ensures.front) (le_of_lt (leb-false _ _ (sym c.at_least.ensures ∙ c.if-at_least.false))), l.invariant.1, l.invariant.2, l.invariant.3, l.invariant.4)
+    (series-right l.invariant.0 (omega arith) (omega arith) p-is q-is c.min.ensures c.put.ensures (le_of_lt (leb-false _ _ (sym c.at_least.ensures ∙ c.if-at_least.false))), l.invariant.1, l.invariant.2, l.invariant.3, l.invariant.4)
 
-pub returns : goal.returns
-returns c = series-done c.loop-i.invariant.0 (inl (omega arith))
+pub returns-after-loop-i : goal.returns-after-loop-i
+returns-after-loop-i c = series-done c.loop-i.invariant.0 (inl (omega arith))
