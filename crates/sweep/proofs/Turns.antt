@@ -15,8 +15,8 @@ use Rattle.front.specs.Pair.{pair_of, holds_at}
 use Rattle.front.specs.Front.{Within, AllWithin}
 use Rattle.front.proofs.Pairs.{holds-is}
 use Rattle.front.proofs.Fronts.{holds-fewer}
-use Rattle.record.specs.Record.{record_size1, record_size2, listed, front_bytes, longest}
-use Rattle.buffer.specs.Steps.{record_in, Puttable}
+use Rattle.record.specs.Record.{record_size1, record_size2, listed, record_bytes, front_bytes}
+use Rattle.buffer.specs.Steps.{Puttable}
 use Rattle.buffer.proofs.Collects.{Collects, collects-none}
 use Rattle.network.specs.Walk.{route_pairs}
 use Rattle.relax.specs.declared.Net.{Net}
@@ -91,19 +91,19 @@ module _ {f : Graph} {capacities links order label stack wait found : List ℕ} 
   puttable h = rise-puttable f w.done (x - 1) y last up now w.height h (inside h)
 
   -- what is collected then
-  pub collected : {found₁ : List ℕ} → length found₁ ≡ longest → (y ≤ last → found₁ ≡ found) → (last < y → record_in found₁ ≡ front_bytes (record_size1 found) (record_size2 found) (listed (record_in found) ++ (pair_of x y ∷ [])))
+  pub collected : {found₁ : List ℕ} → (y ≤ last → found₁ ≡ found) → (last < y → found₁ ≡ front_bytes (record_size1 found) (record_size2 found) (listed found ++ (pair_of x y ∷ [])))
       → Collects f.n1 f.n2 (whole f) (held_below f (x - 1)) (x - 1) found₁
-  collected {found₁} l same more =
+  collected {found₁} same more =
       ⊎_elim
       (λ le. subst (λ b. Collects f.n1 f.n2 (whole f) (held_below f (x - 1)) (x - 1) b) (sym (same le)) (same-height f w.done (x - 1) y last up now w.height le))
-      (λ lt. rise-height f w.done (x - 1) y last up now w.height lt (inside lt) l (more lt)) (sides y last)
+      (λ lt. rise-height f w.done (x - 1) y last up now w.height lt (inside lt) (more lt)) (sides y last)
 
   module _ {found₁ : List ℕ} (c : Collects f.n1 f.n2 (whole f) (held_below f (x - 1)) (x - 1) found₁) where
     low : (r : ℕ) → r ≤ x - 1 → ((k : ℕ) → r ≤ k → k < x - 1 → get_or label₁ (get_or order k 0) 0 ≤ y) → Settled f r label₁ wait₁ × Collects f.n1 f.n2 (whole f) (held_below f r) r found₁
     low r most none = down w.by_order (x - 1) r most (omega (arith, w.some, w.begun)) s c (λ k i j. omega (arith, none k i j, is))
 
     -- no node is left that could raise the source's label
-    pub ended : NoneIn order label₁ (x - 1) y → record_in found₁ ≡ front_bytes f.n1 f.n2 (route_pairs (graph_network f))
+    pub ended : NoneIn order label₁ (x - 1) y → found₁ ≡ front_bytes f.n1 f.n2 (route_pairs (graph_network f))
     ended none = all-collected f (low 0 (omega arith) (λ k _ j. none k j)).1 w.within
 
     -- the next node enters
@@ -130,7 +130,7 @@ module _ {f : Graph} {capacities links order label stack wait found : List ℕ} 
 -- ---- the first turn: only the target has a label
 module _ {f : Graph} {capacities links order found : List ℕ} (l : Laid f) (lent : Lent f capacities links) (o : ByOrder f order)
     (within : AllWithin f.n1 f.n2 (route_pairs (graph_network f)))
-    (empty : found ≡ f.n1 ∷ f.n2 ∷ replicate (longest - 2) 0) {d pile : List ℕ} (blank : Blank capacities d pile) (x : ℕ) (is_x : x ≡ start f) (some : 0 < x) where
+    (empty : found ≡ record_bytes f.n1 f.n2 []) {d pile : List ℕ} (blank : Blank capacities d pile) (x : ℕ) (is_x : x ≡ start f) (some : 0 < x) where
   settled : Settled f (start f) d (replicate (max_position + 1) 0)
   settled = at_first l (omega arith) (omega (arith, lent.long, blank.long)) blank.short (omega arith) blank.none (λ c. get_or-same (max_position + 1) c 0)
 
@@ -167,11 +167,10 @@ module _ {f : Graph} {capacities links order found : List ℕ} (l : Laid f) (len
       collecting =
           let c : Collects f.n1 f.n2 (held_below f x) (held_below f x) x found = collects-none l.small1 l.small2 empty in
           record {
-            long = c.long;
             small1 = c.small1;
             small2 = c.small2;
             done = c.done;
-            begins = c.begins;
+            is = c.is;
             form = c.form;
             holding = λ u v. T-ext (whole f u v) (held_below f x u v) (
               λ t. ⊎_elim (λ (le : x ≤ u). absurd (omega (arith, (shut v).0 (holds-fewer (route_pairs (graph_network f)) x u v v le (omega arith) t)))) (λ lt. (held-below-is f x u v).1 (lt, t)) (sides x u),

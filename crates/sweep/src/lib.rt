@@ -2,29 +2,28 @@
 #![tactic(auto)]
 
 ghost use Rattle.std.specs.Prelude.{◌≡◌, [], ◌∷◌, ◌++◌, ℕ, ◌-◌, ◌≤◌, ◌<◌, length, get_or, MatchOption};
-ghost use Rattle.record.specs.Record.{record_size1, record_size2, listed, front_bytes, longest};
-ghost use Rattle.buffer.specs.Steps.{record_in, Puttable};
+ghost use Rattle.record.specs.Record.{record_size1, record_size2, listed, front_bytes};
+ghost use Rattle.buffer.specs.Steps.{Puttable};
 ghost use Rattle.network.specs.Walk.{route_pairs};
 ghost use Rattle.relax.specs.Steps.{Graph, graph_network};
 ghost use Rattle.sweep.specs.Steps.{Sweepable, Blank, NoneIn, NextIn};
 
-use buffer::LONGEST;
+use buffer::FrontRecord;
 use front::{Pair, Pos, Pos1, Pos2};
 use limits::MAX_POSITION;
 use relax::{Net, Step};
 
 // Puts the pair, where its p2 is above the last.
-fn collect(found: &mut [u8; LONGEST], p: Pair, last: Pos2)
-    requires { (length found.old ≡ longest) × (last.0 < p.p2.0 → Puttable found.old p) }
-    ensures long { length found.new ≡ longest }
+fn collect(found: &mut FrontRecord, p: Pair, last: Pos2)
+    requires { last.0 < p.p2.0 → Puttable found.old p }
     ensures same { p.p2.0 ≤ last.0 → found.new ≡ found.old }
-    ensures more { last.0 < p.p2.0 → record_in found.new
-        ≡ front_bytes (record_size1 found.old) (record_size2 found.old) (listed (record_in found.old) ++ p ∷ []) }
+    ensures more { last.0 < p.p2.0 → found.new
+        ≡ front_bytes (record_size1 found.old) (record_size2 found.old) (listed found.old ++ p ∷ []) }
 {
     if last.at_least(p.p2) {
         return;
     }
-    buffer::put(found, p)
+    found.put(p)
 }
 
 // The next node to enter: the largest place below x whose node has a label above `last`.
@@ -41,7 +40,7 @@ fn next_in(order: &[u16], label: &[u8], x: Pos1, last: Pos2) -> Option<Pos1>
     None
 }
 
-// The front record of a network, in a buffer. `begin` is the first step: x at the start, the target
+// The front record of a network. `begin` is the first step: x at the start, the target
 // entering with its capacity. Labels and stack are the caller's, as long as its network needs.
 pub fn sweep(
     net: Net,
@@ -50,14 +49,14 @@ pub fn sweep(
     begin: Step,
     label: &mut [u8],
     stack: &mut [u16],
-) -> [u8; LONGEST]
+) -> FrontRecord
     requires network { (f : Graph) × Sweepable f net order.now n2 begin }
     requires blank { Blank net.capacities.now label.old stack.old }
     ensures { (f : Graph) → Sweepable f net.entry order.now n2 begin
-        → record_in result ≡ front_bytes f.n1 f.n2 (route_pairs (graph_network f)) }
+        → result ≡ front_bytes f.n1 f.n2 (route_pairs (graph_network f)) }
 {
     let mut wait = [0u16; MAX_POSITION + 1];
-    let mut found = buffer::empty(order.len() as u8, n2);
+    let mut found = FrontRecord::empty(order.len() as u8, n2);
     let t = begin.node as usize;
     label[t] = net.capacities[net.capacities.len() / 2 + t];
     let mut x = begin.x;

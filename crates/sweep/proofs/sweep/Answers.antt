@@ -1,10 +1,10 @@
 -- `sweep::sweep` goes down from x to x: what is collected, and what lies below x, hold where the network does.
 use mathlib.Core.Path.{refl, ap, ap₂, ◌∙◌}
-use mathlib.Core.List.{◌∷◌}
-use Prim.Native.Nat.{◌+◌, ◌-◌, ◌/◌}
+use mathlib.Core.List.{[]}
+use Prim.Native.Nat.{◌+◌, ◌/◌}
 use native.Mathlib.Omega.{arith}
-use lib.ListN.{length, get_or, replicate}
-use Rattle.record.specs.Record.{longest}
+use lib.ListN.{length, get_or}
+use Rattle.record.specs.Record.{record_bytes}
 use Rattle.sweep.proofs.Turns.{begins-at, floodable, puttable, collected, ended, onward}
 use Rattle.sweep.proofs.sweep.Goals as goal
 
@@ -13,7 +13,7 @@ loop-next-init c =
     let b = c.args.begin in
     let caps = c.args.net.capacities.now in (
       λ f p.
-          begins-at p.laid p.lent p.by_order p.within (c.empty-found.ensures ∙ ap₂ (λ a b. a ∷ b ∷ replicate (longest - 2) 0) p.sizes.0 p.sizes.1) c.requires.blank
+          begins-at p.laid p.lent p.by_order p.within (c.empty-found.ensures ∙ ap₂ (λ a b. record_bytes a b []) p.sizes.0 p.sizes.1) c.requires.blank
           b.x.0 p.begins p.some b.node (get_or caps (length caps / 2 + b.node) 0) p.enters refl,
       refl,
     )
@@ -26,7 +26,7 @@ collect-requires c =
     let f = c.requires.network.0 in
     let p = c.requires.network.1 in
     let l = c.loop-next.invariant.0 f p in
-    (l.done.long, λ h. puttable l (c.flood.ensures.settled f (floodable c.args.begin l refl p.source)) _ (ap (λ i. get_or c.flood.new.label i 0) p.source) h)
+    λ h. puttable l (c.flood.ensures.settled f (floodable c.args.begin l refl p.source)) _ (ap (λ i. get_or c.flood.new.label i 0) p.source) h
 
 pub returns-in_default : goal.returns-in_default
 returns-in_default c = λ f p.
@@ -34,7 +34,7 @@ returns-in_default c = λ f p.
     let settled = c.flood.ensures.settled f (floodable c.args.begin l refl p.source) in
     let is = ap (λ i. get_or c.flood.new.label i 0) p.source in
     let n = c.collect.ensures in
-    ended l settled _ is (collected l settled _ is n.long n.same n.more) c.in_default.ensures
+    ended l settled _ is (collected l settled _ is n.same n.more) c.in_default.ensures
 
 pub loop-next-preserved : goal.loop-next-preserved
 loop-next-preserved c = (
@@ -43,6 +43,6 @@ loop-next-preserved c = (
       let settled = c.flood.ensures.settled f (floodable c.args.begin l refl p.source) in
       let is = ap (λ i. get_or c.flood.new.label i 0) p.source in
       let n = c.collect.ensures in
-      onward l settled _ is (collected l settled _ is n.long n.same n.more) c.in-Some.ensures c.flood.ensures.long,
+      onward l settled _ is (collected l settled _ is n.same n.more) c.in-Some.ensures c.flood.ensures.long,
   omega (arith, c.loop-next.invariant.1, c.flood.ensures.long.levels),
 )
