@@ -90,5 +90,8 @@ abbrev pub scored : Result ℕ Refusal → Outcome
 scored = told (λ n. n ∷ [])
 
 -- reliability: S, M and R
+abbrev pub rate_values : Rate → List ℕ
+rate_values k = k.sum ∷ k.rounds ∷ k.rate ∷ []
+
 abbrev pub rated : Result Rate Refusal → Outcome
-rated = told (λ k. k.sum ∷ k.rounds ∷ k.rate ∷ [])
+rated = told rate_values

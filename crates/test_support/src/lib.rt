@@ -1,5 +1,5 @@
 // What the test programs share: numbers from a seed, bytes and words read and stored without a
-// thought for ends, comparison, where a record holds, and lines of output.
+// thought for ends, and where a record holds.
 #![tactic(auto)]
 
 ghost use Rattle.std.specs.Prelude.{◌≤◌, ◌<◌};
@@ -29,26 +29,17 @@ pub fn pick(seed: u64, use_of: u64, n: u64) -> u64
     next(next(seed % 2147483648 + use_of % 65536 * 7919)) / 64 % n
 }
 
-fn wide(x: u8) -> u64
-    ensures { result < 256 }
-{
-    x as u64
-}
-
 // The byte at a place, and 0 past the end.
 pub fn byte(bytes: &[u8], at: usize) -> u64
     ensures { result < 256 }
 {
-    if at < bytes.len() {
-        return wide(bytes[at]);
-    }
-    0
+    bytes.get(at).map_or(0, |&x| u64::from(x))
 }
 
 // Stores a byte where the slice has that place.
 pub fn poke(bytes: &mut [u8], at: usize, value: u64) {
-    if at < bytes.len() {
-        bytes[at] = (value % 256) as u8;
+    if let Some(x) = bytes.get_mut(at) {
+        *x = (value % 256) as u8;
     }
 }
 
@@ -56,32 +47,21 @@ pub fn poke(bytes: &mut [u8], at: usize, value: u64) {
 pub fn part(bytes: &[u8], at: usize, n: usize) -> &[u8]
     requires { (at ≤ 1000000) × (n < 4294967296) }
 {
-    if bytes.len() < at + n {
-        return &bytes[0..0];
-    }
-    &bytes[at..at + n]
+    bytes.get(at..at + n).unwrap_or(&[])
 }
 
-fn wide_word(x: u32) -> u64
-    ensures { result < 4294967296 }
-{
-    x as u64
-}
-
-// The word at a place, and 0 past the end.
+// The word at a place, and 0 past the end. Not one generic function with `byte`: a bound `From` says
+// nothing of how large the number is.
 pub fn word(words: &[u32], at: usize) -> u64
     ensures { result < 4294967296 }
 {
-    if at < words.len() {
-        return wide_word(words[at]);
-    }
-    0
+    words.get(at).map_or(0, |&x| u64::from(x))
 }
 
 // Stores a word where the slice has that place.
 pub fn put(words: &mut [u32], at: usize, value: u64) {
-    if at < words.len() {
-        words[at] = (value % 4294967296) as u32;
+    if let Some(x) = words.get_mut(at) {
+        *x = (value % 4294967296) as u32;
     }
 }
 
@@ -96,35 +76,22 @@ pub fn times(x: u64, y: u64) -> u64
 pub fn flag(test: bool) -> u64
     ensures { result ≤ 1 }
 {
-    if test { 1 } else { 0 }
+    u64::from(test)
 }
 
 pub fn equal(a: &[u8], b: &[u8]) -> bool {
-    if a.len() != b.len() {
-        return false;
-    }
-    let mut i = 0;
-    while i < a.len() {
-        if byte(a, i) != byte(b, i) {
-            return false;
-        }
-        i += 1;
-    }
-    true
+    a == b
 }
 
 // Whether a pair of the record is above (a, b) in both numbers.
 pub fn record_holds(record: &[u8], a: u64, b: u64) -> bool {
-    let k = byte(record, 2) as usize;
-    let mut i: usize = 0;
-    let mut holds = false;
-    while i < k {
-        let p1 = byte(record, 3 + 2 * i);
-        let p2 = byte(record, 4 + 2 * i);
-        holds = holds | ((a < p1) & (b < p2));
-        i += 1;
-    }
-    holds
+    let [_, _, k, pairs @ ..] = record else {
+        return false;
+    };
+    pairs
+        .chunks_exact(2)
+        .take(usize::from(*k))
+        .any(|pair| (a < byte(pair, 0)) & (b < byte(pair, 1)))
 }
 
 // ---- numbers in a text, one sign between two
@@ -133,10 +100,8 @@ pub fn fields(text: &[u8]) -> u64
     ensures { result ≤ 1000 }
 {
     let mut n: u64 = 1;
-    let mut i: usize = 0;
-    while i < text.len() {
-        n = n % 1000 + flag(byte(text, i) < 48);
-        i += 1;
+    for &c in text {
+        n = n % 1000 + u64::from(c < 48);
     }
     n
 }
@@ -145,17 +110,11 @@ pub fn fields(text: &[u8]) -> u64
 pub fn field(text: &[u8], k: u64) -> u64 {
     let mut n: u64 = 0;
     let mut x: u64 = 0;
-    let mut i: usize = 0;
-    while i < text.len() {
-        let c = byte(text, i);
-        let digit = (n == k) & (47 < c);
-        x = if digit {
-            x % 1000000 * 10 + (c + 208) % 256
-        } else {
-            x
-        };
-        n = n % 1000 + flag(c < 48);
-        i += 1;
+    for &c in text {
+        if (n == k) & (47 < c) {
+            x = x % 1000000 * 10 + (u64::from(c) + 208) % 256;
+        }
+        n = n % 1000 + u64::from(c < 48);
     }
     x
 }

@@ -3,7 +3,7 @@ use Rattle.cells.proofs.Rows.{rows_lie, columns-lie}
 use Rattle.cells.proofs.edges_ready.Goals as goal
 
 pub lines_start-rows-requires : goal.lines_start-rows-requires
-lines_start-rows-requires c = rw (c.wide-h.ensures.0, c.wide-w.ensures.0) (rows_lie c.requires)
+lines_start-rows-requires c = rows_lie c.requires
 
 pub lines_start-requires : goal.lines_start-requires
-lines_start-requires c = rw (c.wide-h.ensures.0, c.wide-w.ensures.0) (columns-lie c.requires)
+lines_start-requires c = columns-lie c.requires

@@ -23,7 +23,7 @@ bounds-heights-x c =
     (c.turned-p.result ≡ get_or l c.loop-i.i (pair_of 0 0)) × (c.turned-p.result.p1.0 < max_position + 1) × (c.loop-i.i < length l) =
     let l = c.loop-i in
     rw (c.turned-p.ensures, c.pair_at.ensures) (pair-in c.args.«record».now ((record_is c.args.«record».now).0 c.requires) c.args.flip l.i (omega (arith, l.invariant.2))) in
-    omega (arith, (looked).1, c.wide-x.ensures, c.loop-i.invariant.0.long)
+    omega (arith, (looked).1, c.loop-i.invariant.0.long)
 
 pub bounds-heights-x-in-loop-i : goal.bounds-heights-x-in-loop-i
 bounds-heights-x-in-loop-i c =
@@ -31,7 +31,7 @@ bounds-heights-x-in-loop-i c =
     (c.turned-p.result ≡ get_or l c.loop-i.i (pair_of 0 0)) × (c.turned-p.result.p1.0 < max_position + 1) × (c.loop-i.i < length l) =
     let l = c.loop-i in
     rw (c.turned-p.ensures, c.pair_at.ensures) (pair-in c.args.«record».now ((record_is c.args.«record».now).0 c.requires) c.args.flip l.i (omega (arith, l.invariant.2))) in
-    omega (arith, (looked).1, c.wide-x.ensures, c.loop-i.invariant.0.long)
+    omega (arith, (looked).1, c.loop-i.invariant.0.long)
 
 pub loop-i-preserved : goal.loop-i-preserved
 loop-i-preserved c =
@@ -42,7 +42,7 @@ loop-i-preserved c =
     let l = c.loop-i in
     let p = looked in
     let n = height-next l.invariant.0 p.2 c.turned-p.result p.0 p.1 in
-    (rw (c.larger.ensures, c.wide-x.ensures.0) n, omega arith, l.invariant.2)
+    (rw c.larger.ensures n, omega arith, l.invariant.2)
 
 pub returns : goal.returns
 returns c =

@@ -25,7 +25,7 @@ starts-all-requires c =
     let l = c.loop-x in
     let z = c.larger-y.result.0 in
     let fit = line-fits (turn_all a.flip (listed a.«record».now)) a.lines a.n a.stride c.requires.within l.invariant.0 (omega arith) z (rose) in
-    rw (c.wide.ensures.0, l.invariant.0.place) (fit, λ i h. c.requires.room (a.lines - l.x) i (omega (arith, l.invariant.0.upto)) h)
+    rw l.invariant.0.place (fit, λ i h. c.requires.room (a.lines - l.x) i (omega (arith, l.invariant.0.upto)) h)
 
 pub loop-x-preserved : goal.loop-x-preserved
 loop-x-preserved c =
@@ -39,4 +39,4 @@ loop-x-preserved c =
     let m = turn_all a.flip (listed a.«record».now) in
     let next = line-next m a.lines a.n a.stride c.requires.within l.invariant.0 (omega arith) z (rose) in
     let test = test-next m a.lines a.n a.stride c.requires.within l.invariant.0 (omega arith) z (rose) a.cells.now a.step l.invariant.3 in
-    (next, l.invariant.1, l.invariant.2, rw (c.starts-all.ensures, c.wide.ensures.0) test)
+    (next, l.invariant.1, l.invariant.2, rw c.starts-all.ensures test)

@@ -7,11 +7,11 @@ use Rattle.compose.specs.Compose.{record_tests, series_bytes}
 use Rattle.compose.proofs.Answers.{joined-joinable}
 use Rattle.compose.proofs.series.Goals as goal
 
-pub returns-in-Refused : goal.returns-in-Refused
-returns-in-Refused c =
+pub returns-in-Err : goal.returns-in-Err
+returns-in-Err c =
     let x = c.args.left.now in
     let y = c.args.right.now in
-    let both = fill-refused (record_tests x y) (series_bytes x y) c.args.out.now _ (sym c.joinable.ensures ∙ ap done c.in-Refused.is) in record { answer = both.0; slice = both.1 }
+    let both = fill-refused (record_tests x y) (series_bytes x y) c.args.out.now _ (sym c.joinable.ensures ∙ ap done c.in-Err.is) in record { answer = both.0; slice = both.1 }
 
 pub merge_series-requires : goal.merge_series-requires
 merge_series-requires c =

@@ -12,17 +12,17 @@ count_few-requires c = rw c.part.ensures.bytes (omega (arith, length-take 255 (d
 
 pub overflow_add-n : goal.overflow_add-n
 overflow_add-n c =
-    let counted : let a = c.args in let l = c.loop-at in count a.x a.bytes.now ≡ l.n + c.wide-n.result + count a.x (drop (l.at + 255) a.bytes.now) = let a = c.args in
+    let counted : let a = c.args in let l = c.loop-at in count a.x a.bytes.now ≡ l.n + c.count_few.result + count a.x (drop (l.at + 255) a.bytes.now) = let a = c.args in
     let l = c.loop-at in
-    let e = c.wide-n.ensures.0 ∙ c.count_few.ensures ∙ ap (count a.x) c.part.ensures.bytes in
+    let e = c.count_few.ensures ∙ ap (count a.x) c.part.ensures.bytes in
     omega (arith, l.invariant.1, e, count-part a.x a.bytes.now l.at 255) in
     omega (arith, counted, count_most c.args.x c.args.bytes.now)
 
 pub loop-at-preserved : goal.loop-at-preserved
 loop-at-preserved c =
-    let counted : let a = c.args in let l = c.loop-at in count a.x a.bytes.now ≡ l.n + c.wide-n.result + count a.x (drop (l.at + 255) a.bytes.now) = let a = c.args in
+    let counted : let a = c.args in let l = c.loop-at in count a.x a.bytes.now ≡ l.n + c.count_few.result + count a.x (drop (l.at + 255) a.bytes.now) = let a = c.args in
     let l = c.loop-at in
-    let e = c.wide-n.ensures.0 ∙ c.count_few.ensures ∙ ap (count a.x) c.part.ensures.bytes in
+    let e = c.count_few.ensures ∙ ap (count a.x) c.part.ensures.bytes in
     omega (arith, l.invariant.1, e, count-part a.x a.bytes.now l.at 255) in
     (omega arith, counted)
 

@@ -1,10 +1,10 @@
 -- `parts::count_rest`: the entries before i are good and counted, or one of them ends the pass.
-use mathlib.Core.Path.{sym, ap, ◌∙◌}
+use mathlib.Core.Path.{sym, ◌∙◌}
 use Prim.Native.Nat.{◌+◌, ◌*◌}
 use native.Mathlib.Omega.{arith}
 use lib.ListN.{get_or}
 use Rattle.limits.specs.Limits.{arc_size}
-use Rattle.parts.proofs.Arcs.{class1, class2, of-class1, of-class2, looked-arc, looked-kind, looked-next, looked-end}
+use Rattle.parts.proofs.Arcs.{of-class1, of-class2, looked-arc, looked-kind, looked-next, looked-end}
 use Rattle.parts.proofs.count_rest.Goals as goal
 
 pub loop-i-init : goal.loop-i-init
@@ -33,8 +33,8 @@ pub loop-i-preserved : goal.loop-i-preserved
 loop-i-preserved c = let a = c.args in
     let l = c.loop-i in
     let kind = get_or a.arcs.now (arc_size * l.i + 2) 0 in
-    let e1 = c.wide-n1.ensures.0 ∙ ap (λ k. get_or class1 k 0) c.wide-k.ensures.0 ∙ of-class1 kind (omega arith) in
-    let e2 = c.wide-n2.ensures.0 ∙ ap (λ k. get_or class2 k 0) c.wide-k.ensures.0 ∙ of-class2 kind (omega arith) in
+    let e1 = of-class1 kind (omega arith) in
+    let e2 = of-class2 kind (omega arith) in
     (omega arith, looked-next a.n a.arcs.now l.invariant.1 (omega arith) _ _ (sym c.bad_arc.ensures ∙ c.if-bad_arc.false) (omega arith) e1 e2)
 
 pub returns : goal.returns

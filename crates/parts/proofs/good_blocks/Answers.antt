@@ -16,7 +16,7 @@ returns-then-found c = c.loop-i.invariant
 pub loop-i-preserved : goal.loop-i-preserved
 loop-i-preserved c = let l = c.loop-i in
     let k = c.look-found.ensures.good c.if-found.false l.n1 l.n2 l.invariant.1 in
-    (omega arith, rw (c.wide-n1.ensures.0, c.wide-n2.ensures.0) k)
+    (omega arith, k)
 
 pub returns : goal.returns
 returns c = c.loop-i.invariant

@@ -8,15 +8,11 @@ use Rattle.soundness.proofs.check.Goals as goal
 pub returns-then-not-is_fair : goal.returns-then-not-is_fair
 returns-then-not-is_fair c =
     let t = c.args.tally.now in
-    let e1 = c.wide_word-n1.ensures.0 in
-    let e2 = c.wide_word-n2.ensures.0 in
-    let k = rw (tail-part t head_words, e1, e2) at c.is_fair.ensures in
-    sym (unfair t c.if-tally-lt-HEAD.false (rw (e1, e2) at c.if-n1-n2.false) (rw (e1, e2) at c.if-tally-n1.false) c.if-tally-gt-FULL.false (sym k ∙ c.if-not-is_fair.true))
+    let k = rw (tail-part t head_words) at c.is_fair.ensures in
+    sym (unfair t c.if-tally-lt-HEAD.false c.if-n1-n2.false c.if-tally-n1.false c.if-tally-gt-FULL.false (sym k ∙ c.if-not-is_fair.true))
 
 pub returns : goal.returns
 returns c =
     let t = c.args.tally.now in
-    let e1 = c.wide_word-n1.ensures.0 in
-    let e2 = c.wide_word-n2.ensures.0 in
-    let k = rw (tail-part t head_words, e1, e2) at c.is_fair.ensures in
-    sym (good t c.if-tally-lt-HEAD.false (rw (e1, e2) at c.if-n1-n2.false) (rw (e1, e2) at c.if-tally-n1.false) c.if-tally-gt-FULL.false (sym k ∙ c.if-not-is_fair.false))
+    let k = rw (tail-part t head_words) at c.is_fair.ensures in
+    sym (good t c.if-tally-lt-HEAD.false c.if-n1-n2.false c.if-tally-n1.false c.if-tally-gt-FULL.false (sym k ∙ c.if-not-is_fair.false))

@@ -9,13 +9,13 @@ use Rattle.study.proofs.open_round.Goals as goal
 
 pub returns-then-h-round : goal.returns-then-h-round
 returns-then-h-round c =
-    let opens : open_answer c.args.file.now ≡ success (header_values c.in-Study.h) = sym c.open_study.ensures ∙ ap opened c.in-Study.is in
+    let opens : open_answer c.args.file.now ≡ success (header_values c.in-Ok.h) = sym c.open_study.ensures ∙ ap opened c.in-Ok.is in
     sym (number-bad c.args.file.now _ (opens) c.args.round c.if-h-round.true)
 
-pub returns-in-Refused : goal.returns-in-Refused
-returns-in-Refused c = let f = c.args.file.now in sym (outcome-refused (open_tests f) ((10, bad_number f c.args.round) ∷ []) (open_values f) (open_values f) _ (sym c.open_study.ensures ∙ ap opened c.in-Refused.is))
+pub returns-in-Err : goal.returns-in-Err
+returns-in-Err c = let f = c.args.file.now in sym (outcome-refused (open_tests f) ((10, bad_number f c.args.round) ∷ []) (open_values f) (open_values f) _ (sym c.open_study.ensures ∙ ap opened c.in-Err.is))
 
 pub returns-else-h-round : goal.returns-else-h-round
 returns-else-h-round c =
-    let opens : open_answer c.args.file.now ≡ success (header_values c.in-Study.h) = sym c.open_study.ensures ∙ ap opened c.in-Study.is in
+    let opens : open_answer c.args.file.now ≡ success (header_values c.in-Ok.h) = sym c.open_study.ensures ∙ ap opened c.in-Ok.is in
     sym (number-good c.args.file.now _ (opens) c.args.round c.if-h-round.false)

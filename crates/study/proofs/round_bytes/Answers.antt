@@ -17,17 +17,17 @@ returns-in_default c = let f = c.args.file.now in
 
 pub overflow_add-h : goal.overflow_add-h
 overflow_add-h c =
-    let opens : outcome (check_tests c.args.file.now c.args.round) (open_values c.args.file.now) ≡ success (header_values c.in-Study.h) = sym c.open_round-opened.ensures ∙ ap opened c.in-Study.is in
+    let opens : outcome (check_tests c.args.file.now c.args.round) (open_values c.args.file.now) ≡ success (header_values c.in-Ok.h) = sym c.open_round-opened.ensures ∙ ap opened c.in-Ok.is in
     omega (arith, size_small c.args.file.now _ c.args.round (opens))
 
 pub round_at-requires : goal.round_at-requires
 round_at-requires c =
-    let opens : outcome (check_tests c.args.file.now c.args.round) (open_values c.args.file.now) ≡ success (header_values c.in-Study.h) = sym c.open_round-opened.ensures ∙ ap opened c.in-Study.is in
+    let opens : outcome (check_tests c.args.file.now c.args.round) (open_values c.args.file.now) ≡ success (header_values c.in-Ok.h) = sym c.open_round-opened.ensures ∙ ap opened c.in-Ok.is in
     round-small c.args.file.now _ c.args.round (opens)
 
 pub returns : goal.returns
 returns c =
-    let opens : outcome (check_tests c.args.file.now c.args.round) (open_values c.args.file.now) ≡ success (header_values c.in-Study.h) = sym c.open_round-opened.ensures ∙ ap opened c.in-Study.is in
+    let opens : outcome (check_tests c.args.file.now c.args.round) (open_values c.args.file.now) ≡ success (header_values c.in-Ok.h) = sym c.open_round-opened.ensures ∙ ap opened c.in-Ok.is in
     let f = c.args.file.now in
     let r = c.args.round in
     record { bytes = c.round_at.ensures.bytes ∙ round-part f _ r (opens) ∙ sym (round-found f _ r (opens)); place = c.round_at.ensures.place }

@@ -7,7 +7,5 @@ use Rattle.tally.proofs.new.Goals as goal
 pub returns : goal.returns
 returns c =
     let a = c.args in
-    let e1 = c.wide_word-a.ensures.0 in
-    let e2 = c.wide_word-b.ensures.0 in
-    let d = new-done a.n1 a.n2 a.tally.now (rw (e1, e2) at c.if-a-b.false) (rw (e1, e2) at c.if-tally-n.false) in
-    record { answer = d.0; slice = ap (λ w. set (set w 0 a.n1) 1 a.n2) (rw (e1, e2) at c.clear.ensures) ∙ d.1 }
+    let d = new-done a.n1 a.n2 a.tally.now c.if-a-b.false c.if-tally-n.false in
+    record { answer = d.0; slice = ap (λ w. set (set w 0 a.n1) 1 a.n2) c.clear.ensures ∙ d.1 }

@@ -6,9 +6,9 @@ use Rattle.tally.specs.Calls.{removable, removed}
 use Rattle.tally.proofs.Readies.{call-refused}
 use Rattle.tally.proofs.remove.Goals as goal
 
-pub returns-in-Refused : goal.returns-in-Refused
-returns-in-Refused c =
+pub returns-in-Err : goal.returns-in-Err
+returns-in-Err c =
     let r = c.args.«record».now in
     let t = c.args.tally.now in
-    let both = call-refused r t 31 (not (removable r t)) (removed r t) _ (sym c.ready.ensures ∙ ap done c.in-Refused.is) in
+    let both = call-refused r t 31 (not (removable r t)) (removed r t) _ (sym c.ready.ensures ∙ ap done c.in-Err.is) in
     record { answer = both.0; slice = both.1 }

@@ -1,10 +1,6 @@
--- The loop of `fields` goes over the text.
-use Prim.Native.Nat.{◌-◌, ◌≤◌}
-use lib.ListN.{length}
+-- `fields` counts up to 1000.
+use Rattle.std.proofs.Common.{◌≤◌}
 use Rattle.test_support.proofs.fields.Given as goal
 
-abbrev pub invariant-loop-i : goal.invariant-loop-i
-invariant-loop-i l = (l.i ≤ length l.text) × (l.n ≤ 1000)
-
-abbrev pub decreases-loop-i : goal.decreases-loop-i
-decreases-loop-i l = length l.text - l.i
+abbrev pub invariant-loop-c : goal.invariant-loop-c
+invariant-loop-c l = l.n ≤ 1000

@@ -1,9 +1,8 @@
 -- `writer::put_trailer`: k numbers are written.
 use mathlib.Core.Path.{◌≡◌, refl, ap, ◌∙◌}
 use mathlib.Core.List.{[]}
-use Prim.Native.Nat.{◌+◌, ◌-◌, ◌*◌, ◌≤◌}
+use Prim.Native.Nat.{◌+◌, ◌*◌}
 use native.Mathlib.Omega.{arith}
-use borrow.Author.Rules.{rules}
 use lib.ListN.{take, length, get_or}
 use lib.Seq.{paste-zero, take-length}
 use Rattle.slices.proofs.Placing.{words-next}

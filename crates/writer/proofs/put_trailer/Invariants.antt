@@ -1,13 +1,8 @@
 -- `writer::put_trailer`: k numbers are written.
-use mathlib.Core.Path.{◌≡◌, refl, ap, ◌∙◌}
-use mathlib.Core.List.{[]}
-use Prim.Native.Nat.{◌+◌, ◌-◌, ◌*◌, ◌≤◌}
-use native.Mathlib.Omega.{arith}
-use borrow.Author.Rules.{rules}
-use lib.ListN.{take, length, get_or}
-use lib.Seq.{paste-zero, take-length}
-use Rattle.slices.proofs.Placing.{words-next}
-use Rattle.slices.specs.Bytes.{word_bytes, words_bytes}
+use mathlib.Core.Path.{◌≡◌}
+use Prim.Native.Nat.{◌-◌, ◌≤◌}
+use lib.ListN.{take, length}
+use Rattle.slices.specs.Bytes.{words_bytes}
 use Rattle.slices.specs.Steps.{placed}
 use Rattle.writer.proofs.put_trailer.Given as goal
 

@@ -2,7 +2,6 @@
 use mathlib.Core.Path.{◌≡◌, refl, sym, ap, ◌∙◌}
 use mathlib.Core.List.{[], ◌∷◌}
 use native.Mathlib.Omega.{arith}
-use borrow.Author.Rules.{rules}
 use Rattle.answer.specs.Outcome.{success, outcome, done}
 use Rattle.answer.proofs.Fills.{fill-refused, fill-delivered, deliver-short, deliver-done}
 use Rattle.slices.proofs.Placing.{placed_first}
@@ -10,10 +9,10 @@ use Rattle.writer.specs.Writer.{Given, given, given_tests, study_bytes}
 use Rattle.writer.proofs.Answers.{given-small, bytes-length}
 use Rattle.writer.proofs.write_study.Goals as goal
 
-pub returns-in-Refused : goal.returns-in-Refused
-returns-in-Refused c =
+pub returns-in-Err : goal.returns-in-Err
+returns-in-Err c =
     let of : Given = let a = c.args in given a.nodes.now a.arcs.now a.rounds.now a.source a.target a.total in
-    let both = fill-refused (given_tests (of)) (study_bytes (of)) c.args.out.now _ (sym c.test_given.ensures ∙ ap done c.in-Refused.is) in record { answer = both.0; slice = both.1 }
+    let both = fill-refused (given_tests (of)) (study_bytes (of)) c.args.out.now _ (sym c.test_given.ensures ∙ ap done c.in-Err.is) in record { answer = both.0; slice = both.1 }
 
 pub overflow_add-dn-2 : goal.overflow_add-dn-2
 overflow_add-dn-2 c =

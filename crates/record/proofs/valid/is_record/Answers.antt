@@ -13,8 +13,8 @@ returns-then-n1-gt-MOST c = not-record c.args.bytes.now (λ r. omega arith)
 pub returns-then-n2-gt-MOST : goal.returns-then-n2-gt-MOST
 returns-then-n2-gt-MOST c = not-record c.args.bytes.now (λ r. omega arith)
 
-pub returns-then-bytes-wide : goal.returns-then-bytes-wide
-returns-then-bytes-wide c = not-record c.args.bytes.now (λ r. c.if-bytes-wide.true (omega arith))
+pub returns-then-bytes-k : goal.returns-then-bytes-k
+returns-then-bytes-k c = not-record c.args.bytes.now (λ r. c.if-bytes-k.true (omega arith))
 
 pub returns-then-n1-k : goal.returns-then-n1-k
 returns-then-n1-k c = not-record c.args.bytes.now (λ r. omega (arith, record-few c.args.bytes.now r))
