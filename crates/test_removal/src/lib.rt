@@ -7,7 +7,7 @@ mod routes;
 ghost use Rattle.std.specs.Prelude.{◌≤◌};
 
 use arrayvec::ArrayVec;
-pub use routes::{Record, Routes, Ways};
+pub use routes::{Routes, Ways};
 use test_support::record_holds;
 
 // An arc: its ends, its class, and whether it leads both ways.
@@ -204,15 +204,26 @@ pub fn differ(record: &[u8], cells: &Cells<bool>) -> u64 {
     wrong
 }
 
-// For l1 and l2 working members in how many of eight tables the round holds.
-pub fn held(tables: &[Cells<bool>; 8], n1: usize, n2: usize) -> Cells<u8>
+// ---- rounds found
+// A front record.
+pub type Record = ArrayVec<u8, 160>;
+
+// A record that the library found, and the cells in which removal testing finds that it holds.
+#[derive(Default, Drop)]
+pub struct Found {
+    pub record: Record,
+    pub cells: Cells<bool>,
+}
+
+// For l1 and l2 working members in how many of the rounds the network holds.
+pub fn held(rounds: &[Found], n1: usize, n2: usize) -> Cells<usize>
     requires { (n1 ≤ 64) × (n2 ≤ 64) }
 {
     let mut held = [[0; 65]; 65];
     for l1 in 0..=n1 {
         for l2 in 0..=n2 {
-            let holding = tables.iter().filter(|cells| cells[n1 - l1][n2 - l2]);
-            held[l1][l2] = holding.count() as u8;
+            let holding = rounds.iter().filter(|round| round.cells[n1 - l1][n2 - l2]);
+            held[l1][l2] = holding.count();
         }
     }
     held

@@ -1,7 +1,7 @@
 // All routes of a small network, and the record that they make.
 ghost use Rattle.std.specs.Prelude.{◌≡◌, ◌+◌, ◌≤◌, IfSome};
 
-use crate::{Arc, Member, Members, Round};
+use crate::{Arc, Member, Members, Record, Round};
 use arrayvec::ArrayVec;
 
 // Which ways routes take an arc.
@@ -86,8 +86,6 @@ impl Route {
         Some(self)
     }
 }
-
-pub type Record = ArrayVec<u8, 160>;
 
 // What the routes of a round have: for each p1 the largest p2 of a route, and the ways that routes
 // take.
