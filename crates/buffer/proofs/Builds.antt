@@ -1,4 +1,4 @@
--- A record that is built in a buffer: what `put` leaves there.
+-- A record that is built pair by pair: what `put` leaves of it.
 use mathlib.Core.Path.{◌≡◌, sym, ap, ap₂, ◌∙◌, subst}
 use mathlib.Core.Logic.{⊎_elim}
 use mathlib.Core.Bool.{true, false, true≢false}
@@ -6,7 +6,7 @@ use mathlib.Core.List.Memᴰ
 use mathlib.Core.List.{List, [], ◌∷◌, ◌++◌, append_assoc}
 use Prim.Native.Nat.{ℕ, suc, ◌+◌, ◌-◌, ◌*◌, ◌≤◌, ◌<◌}
 use native.Mathlib.Omega.{arith}
-use lib.ListN.{length, get_or, take, drop, length-append, length-set, take-append-drop}
+use lib.ListN.{length, get_or, take, drop, length-append, take-append-drop}
 use lib.Seq.{take-append_seam, length-take-le, take-suc, take_all, get_or-take}
 use Rattle.limits.specs.Limits.{max_class}
 use Rattle.laws.specs.Tests.{T_true, order}
@@ -18,14 +18,14 @@ use Rattle.front.specs.Front.{front, Falls, AtMost}
 use Rattle.front.specs.Steps.{RecordForm}
 use Rattle.front.proofs.Pairs.{Above, covers-is, dominates-is}
 use Rattle.front.proofs.Fronts.{form-short}
-use Rattle.record.specs.Record.{record_size1, record_size2, pair_count, flat, listed, record_bytes, front_bytes}
+use Rattle.record.specs.Record.{record_size1, record_size2, pair_count, flat, listed, record_bytes, front_bytes, longest}
 use Rattle.record.specs.Steps.{pair_at}
 use Rattle.buffer.specs.Steps.{record_in, stored, Puttable}
 use Rattle.record.proofs.Bytes.{flat-length, flat_append, take-flat, pair-at, listed-length, record-whole}
 use Rattle.record.proofs.Records.{IsRecord, record_is}
 use Rattle.buffer.proofs.Puts.{put_first, put-covered, put-over, put-form, put-behind}
 
--- the buffer b begins with the record of l
+-- the bytes b begin with the record of l
 pub record Begins (n1 n2 : ℕ) (l : List Pair) (b : List ℕ) : Type 0 where
   pub rest : List ℕ
   pub bytes : b ≡ record_bytes n1 n2 l ++ rest
@@ -54,111 +54,97 @@ module _ {n1 n2 : ℕ} {l : List Pair} {b : List ℕ} (g : Begins n1 n2 l b) whe
             ∙ ap₂ (λ k r. n1 ∷ n2 ∷ k ∷ r) size (sym (append_assoc (flat (take at l)) (p.p1.0 ∷ p.p2.0 ∷ []) (drop (n + 2) old)) ∙ ap (λ r. r ++ drop (n + 2) old) (sym (flat_append (take at l) (p ∷ []))));
       }
 
-pub stored-long : (b : List ℕ) (at : ℕ) (p : Pair) → length (stored b at p) ≡ length b
-stored-long b at p = simp length-set
-
 -- the last pair of a list, and those before it
 snoc_of : (l : List Pair) (d : Pair) → 0 < length l → take (length l - 1) l ++ (get_or l (length l - 1) d ∷ []) ≡ l
 snoc_of l d h =
     let e : suc (length l - 1) ≡ length l = omega arith in
     sym (take-suc l (length l - 1) d (omega arith)) ∙ ap (λ n. take n l) e ∙ take_all (length l) l (omega arith)
 
--- ---- the cases of `put`
-module _ {b : List ℕ} {p : Pair} (q : Puttable b p) where
-  abbrev r : List ℕ
-  r = record_in b
-
+-- ---- the cases of `put`: the bytes b begin with the record r, and become b'
+module _ {r : List ℕ} {p : Pair} (q : Puttable r p) where
   abbrev l : List Pair
   l = listed r
 
   abbrev n1 : ℕ
-  n1 = record_size1 b
+  n1 = record_size1 r
 
   abbrev n2 : ℕ
-  n2 = record_size2 b
+  n2 = record_size2 r
 
   is : IsRecord r
   is = (record_is r).0 q.good
 
-  head : (i : ℕ) → i < 3 → get_or r i 0 ≡ get_or b i 0
-  head i h = get_or-take (3 + 2 * pair_count b) b i 0 (omega arith)
+  module _ (b : List ℕ) (e : record_in b ≡ r) (long : length b ≡ longest) where
+    begins : Begins n1 n2 l b
+    begins =
+        record {
+          rest = drop (3 + 2 * pair_count b) b;
+          bytes = sym (take-append-drop (3 + 2 * pair_count b) b) ∙ ap (λ x. x ++ drop (3 + 2 * pair_count b) b) (e ∙ record-whole r is.long);
+        }
 
-  form : RecordForm n1 n2 l
-  form = subst (λ x. RecordForm x n2 l) (head 0 (omega arith)) (subst (λ y. RecordForm (record_size1 r) y l) (head 1 (omega arith)) is.form)
+    size : length l ≡ pair_count b
+    size = listed-length r is.long ∙ ap pair_count (sym e) ∙ get_or-take (3 + 2 * pair_count b) b 2 0 (omega arith)
 
-  begins : Begins n1 n2 l b
-  begins =
-      record {
-        rest = drop (3 + 2 * pair_count b) b;
-        bytes = sym (take-append-drop (3 + 2 * pair_count b) b)
-            ∙ ap (λ x. x ++ drop (3 + 2 * pair_count b) b) (record-whole r is.long ∙ ap₂ (λ x y. record_bytes x y l) (head 0 (omega arith)) (head 1 (omega arith)));
-      }
+    pub few : pair_count b ≤ max_class + 1
+    few = omega (arith, size, form-short n1 n2 l is.form, is.small1)
 
-  size : length l ≡ pair_count b
-  size = listed-length r is.long ∙ head 2 (omega arith)
+    -- the record after p is stored at a place
+    after : (at : ℕ) {b' : List ℕ} → at ≤ pair_count b → at ≤ max_class → take at l ++ (p ∷ []) ≡ front n1 n2 (l ++ (p ∷ [])) → b' ≡ stored b at p → record_in b' ≡ front_bytes n1 n2 (l ++ (p ∷ []))
+    after at h k f g = ap record_in g ∙ begins-in (begins-stored begins at p (omega (arith, size)) (omega (arith, long))) ∙ ap (record_bytes n1 n2) f
 
-  pub few : pair_count b ≤ max_class + 1
-  few = omega (arith, size, form-short n1 n2 l form, head 0 (omega arith), is.small1)
+    pub wrote-first : pair_count b ≡ 0 → {b' : List ℕ} → b' ≡ stored b 0 p → record_in b' ≡ front_bytes n1 n2 (l ++ (p ∷ []))
+    wrote-first z = after 0 (omega arith) (omega arith) (none l (size ∙ z))
+      where
+        none : (m : List Pair) → length m ≡ 0 → p ∷ [] ≡ front n1 n2 (m ++ (p ∷ []))
+        none [] e = put_first p q.inside
+        none (x ∷ m) e = absurd (omega arith)
 
-  -- the pair that `put` reads
-  abbrev last : Pair
-  last = get_or l (length l - 1) (pair_of 0 0)
+    -- the last pair, which `put` reads
+    module _ (some : 0 < pair_count b) {last : Pair} (read : last ≡ pair_at b (pair_count b - 1)) where
+      abbrev before : List Pair
+      before = take (length l - 1) l
 
-  last-is : 0 < pair_count b → pair_at b (pair_count b - 1) ≡ last
-  last-is h =
-      let i = pair_count b - 1 in
-      let n = 3 + 2 * pair_count b in
-      sym (ap₂ pair_of (get_or-take n b (3 + 2 * i) 0 (omega arith)) (get_or-take n b (4 + 2 * i) 0 (omega arith))) ∙ pair-at r i is.long ∙ ap (λ k. get_or l (k - 1) (pair_of 0 0)) (sym size)
+      last-is : last ≡ get_or l (length l - 1) (pair_of 0 0)
+      last-is =
+          let i = pair_count b - 1 in
+          let n = 3 + 2 * pair_count b in
+          read ∙ sym (ap₂ pair_of (get_or-take n b (3 + 2 * i) 0 (omega arith)) (get_or-take n b (4 + 2 * i) 0 (omega arith))) ∙ ap (λ x. pair_at x i) e ∙ pair-at r i is.long
+          ∙ ap (λ k. get_or l (k - 1) (pair_of 0 0)) (sym size)
 
-  whole : 0 < pair_count b → take (length l - 1) l ++ (last ∷ []) ≡ l
-  whole h = snoc_of l (pair_of 0 0) (omega (arith, size))
+      whole : before ++ (last ∷ []) ≡ l
+      whole = ap (λ z. before ++ (z ∷ [])) last-is ∙ snoc_of l (pair_of 0 0) (omega (arith, size))
 
-  -- the record after p is stored at a place
-  after : (at : ℕ) → at ≤ pair_count b → at ≤ max_class → take at l ++ (p ∷ []) ≡ front n1 n2 (l ++ (p ∷ [])) → record_in (stored b at p) ≡ front_bytes n1 n2 (l ++ (p ∷ []))
-  after at h k e = begins-in (begins-stored begins at p (omega (arith, size)) (omega (arith, q.long))) ∙ ap (record_bytes n1 n2) e
+      form-split : RecordForm n1 n2 (before ++ (last ∷ []))
+      form-split = subst (λ m. RecordForm n1 n2 m) (sym whole) is.form
 
-  pub wrote-first : pair_count b ≡ 0 → record_in (stored b 0 p) ≡ front_bytes n1 n2 (l ++ (p ∷ []))
-  wrote-first z = after 0 (omega arith) (omega arith) (none l (size ∙ z))
-    where
-      none : (m : List Pair) → length m ≡ 0 → p ∷ [] ≡ front n1 n2 (m ++ (p ∷ []))
-      none [] e = put_first p q.inside
-      none (x ∷ m) e = absurd (omega arith)
+      lower : p.p1.0 ≤ last.p1.0
+      lower = q.least last (subst (λ m. last ∈ m) whole (Memᴰ.append_right before here))
 
-  module _ (some : 0 < pair_count b) where
-    abbrev before : List Pair
-    before = take (length l - 1) l
+      pub wrote_nothing : covers last p ≡ true → r ≡ front_bytes n1 n2 (l ++ (p ∷ []))
+      wrote_nothing t =
+          let c = (covers-is last p).0 ((T_true (covers last p)).1 t) in
+          record-whole r is.long ∙ ap (record_bytes n1 n2) (subst (λ m. m ≡ front n1 n2 (m ++ (p ∷ []))) whole (put-covered before last p form-split q.inside lower c))
 
-    form-split : RecordForm n1 n2 (before ++ (last ∷ []))
-    form-split = subst (λ m. RecordForm n1 n2 m) (sym (whole some)) form
+      pub wrote-over : dominates p last ≡ true → {b' : List ℕ} → b' ≡ stored b (pair_count b - 1) p → record_in b' ≡ front_bytes n1 n2 (l ++ (p ∷ []))
+      wrote-over t =
+          let c = (dominates-is p last).0 ((T_true (dominates p last)).1 t) in
+          after (pair_count b - 1) (omega arith) (omega (arith, few))
+          (ap (λ k. take (k - 1) l ++ (p ∷ [])) (sym size) ∙ subst (λ m. before ++ (p ∷ []) ≡ front n1 n2 (m ++ (p ∷ []))) whole (put-over before last p form-split q.inside lower c))
 
-    lower : p.p1.0 ≤ last.p1.0
-    lower = q.least last (subst (λ m. last ∈ m) (whole some) (Memᴰ.append_right before here))
+      module _ (t : covers last p ≡ false) (u : dominates p last ≡ false) where
+        falls : Falls last p
+        falls =
+            let c : AtMost p last → ⊥ = λ h. true≢false (sym ((T_true (covers last p)).0 ((covers-is last p).1 h)) ∙ t) in
+            let d : Above p last → ⊥ = λ h. true≢false (sym ((T_true (dominates p last)).0 ((dominates-is p last).1 h)) ∙ u) in
+            let up : last.p2.0 < p.p2.0 = ⊎_elim (λ le. absurd (c (lower, le))) (λ lt. lt) (order p.p2.0 last.p2.0) in
+            (⊎_elim (λ le. absurd (d (le, omega arith, omega arith))) (λ lt. lt) (order last.p1.0 p.p1.0), up)
 
-    pub wrote_nothing : covers (pair_at b (pair_count b - 1)) p ≡ true → record_in b ≡ front_bytes n1 n2 (l ++ (p ∷ []))
-    wrote_nothing t =
-        let c = (covers-is last p).0 ((T_true (covers last p)).1 (sym (ap (λ x. covers x p) (last-is some)) ∙ t)) in
-        begins-in begins ∙ ap (record_bytes n1 n2) (subst (λ m. m ≡ front n1 n2 (m ++ (p ∷ []))) (whole some) (put-covered before last p form-split q.inside lower c))
+        pub room : pair_count b ≤ max_class
+        room =
+            let s = form-short n1 n2 ((before ++ (last ∷ [])) ++ (p ∷ [])) (put-form before last p form-split q.inside lower falls) in
+            omega (arith, s, ap length whole, length-append (before ++ (last ∷ [])) (p ∷ []), size, is.small1)
 
-    pub wrote-over : dominates p (pair_at b (pair_count b - 1)) ≡ true → record_in (stored b (pair_count b - 1) p) ≡ front_bytes n1 n2 (l ++ (p ∷ []))
-    wrote-over t =
-        let c = (dominates-is p last).0 ((T_true (dominates p last)).1 (sym (ap (dominates p) (last-is some)) ∙ t)) in
-        after (pair_count b - 1) (omega arith) (omega (arith, few))
-        (ap (λ k. take (k - 1) l ++ (p ∷ [])) (sym size) ∙ subst (λ m. before ++ (p ∷ []) ≡ front n1 n2 (m ++ (p ∷ []))) (whole some) (put-over before last p form-split q.inside lower c))
-
-    module _ (t : covers (pair_at b (pair_count b - 1)) p ≡ false) (u : dominates p (pair_at b (pair_count b - 1)) ≡ false) where
-      falls : Falls last p
-      falls =
-          let c : AtMost p last → ⊥ = λ h. true≢false (sym ((T_true (covers last p)).0 ((covers-is last p).1 h)) ∙ ap (λ x. covers x p) (sym (last-is some)) ∙ t) in
-          let d : Above p last → ⊥ = λ h. true≢false (sym ((T_true (dominates p last)).0 ((dominates-is p last).1 h)) ∙ ap (dominates p) (sym (last-is some)) ∙ u) in
-          let up : last.p2.0 < p.p2.0 = ⊎_elim (λ le. absurd (c (lower, le))) (λ lt. lt) (order p.p2.0 last.p2.0) in
-          (⊎_elim (λ le. absurd (d (le, omega arith, omega arith))) (λ lt. lt) (order last.p1.0 p.p1.0), up)
-
-      pub room : pair_count b ≤ max_class
-      room =
-          let s = form-short n1 n2 ((before ++ (last ∷ [])) ++ (p ∷ [])) (put-form before last p form-split q.inside lower falls) in
-          omega (arith, s, ap length (whole some), length-append (before ++ (last ∷ [])) (p ∷ []), size, head 0 (omega arith), is.small1)
-
-      pub wrote-behind : record_in (stored b (pair_count b) p) ≡ front_bytes n1 n2 (l ++ (p ∷ []))
-      wrote-behind =
-          after (pair_count b) (omega arith) room
-          (ap (λ k. k ++ (p ∷ [])) (take_all (pair_count b) l (omega (arith, size))) ∙ subst (λ m. m ++ (p ∷ []) ≡ front n1 n2 (m ++ (p ∷ []))) (whole some) (put-behind before last p form-split q.inside lower falls))
+        pub wrote-behind : {b' : List ℕ} → b' ≡ stored b (pair_count b) p → record_in b' ≡ front_bytes n1 n2 (l ++ (p ∷ []))
+        wrote-behind =
+            after (pair_count b) (omega arith) room
+            (ap (λ k. k ++ (p ∷ [])) (take_all (pair_count b) l (omega (arith, size))) ∙ subst (λ m. m ++ (p ∷ []) ≡ front n1 n2 (m ++ (p ∷ []))) whole (put-behind before last p form-split q.inside lower falls))

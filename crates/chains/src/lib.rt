@@ -56,21 +56,18 @@ pub fn link(arcs: &[u8], nodes: usize, size: usize, links: &mut [u16])
     ensures { Linked size (split_entries nodes 0 (entries_from arcs.now)) links.new }
 {
     let n = arcs.len() / ARC;
-    let mut i: usize = 0;
     let mut d: usize = 0;
-    while i < n {
+    for i in 0..n {
         let u = arcs[ARC * i] as usize;
         let v = arcs[ARC * i + 1] as usize;
         let kind = arcs[ARC * i + 2];
         let m = nodes + i;
         if kind == 0 {
             d = way(u, v, m, 0, d, size, links);
-            i += 1;
             continue;
         }
         let class = kind % 3;
         d = way(u, v, m, class, d, size, links);
-        i += 1;
         if kind < 3 {
             continue;
         }

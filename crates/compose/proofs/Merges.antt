@@ -3,11 +3,11 @@ use mathlib.Core.Path.{◌≡◌, sym, ap, ap₂, ◌∙◌, subst}
 use mathlib.Core.Logic.{◌⊎◌, inl, ⊎_elim}
 use mathlib.Core.Bool.{◌&&◌, ◌||◌, and_comm, and-false, or_assoc, or_comm, and-or_distrib_right}
 use mathlib.Core.List.{List, [], ◌∷◌, ◌++◌}
-use Prim.Native.Nat.{ℕ, zero, suc, ◌+◌, ◌≤◌, ◌<◌, min, max, ◌-◌}
+use Prim.Native.Nat.{ℕ, zero, suc, ◌+◌, ◌≤◌, ◌<◌, min, max}
 use native.Mathlib.Omega.{arith}
 use native.Mathlib.Numerals.{add-one}
 use lib.Dec.{T, eqb, eqb→eq}
-use lib.ListN.{length, get_or, drop, replicate, drop_of_length-le, get_or-eq_default}
+use lib.ListN.{length, get_or, drop, drop_of_length-le, get_or-eq_default}
 use lib.Seq.{drop-cons}
 use Rattle.limits.specs.Limits.{max_class}
 use Rattle.laws.specs.Tests.{T-ext, T_and, T-or, order}
@@ -19,9 +19,9 @@ use Rattle.front.specs.Front.{holds, minima, Within, Falls}
 use Rattle.front.specs.Steps.{RecordForm}
 use Rattle.front.proofs.Pairs.{numbers, holds-is, min-holds}
 use Rattle.front.proofs.Joins.{minima-within, minima-holds, append-within}
-use Rattle.record.specs.Record.{record_size1, record_size2, pair_count, listed, front_bytes, is_record, longest}
+use Rattle.record.specs.Record.{record_size1, record_size2, pair_count, listed, record_bytes, front_bytes, is_record}
 use Rattle.record.specs.Steps.{pair_at}
-use Rattle.buffer.specs.Steps.{record_in, Puttable}
+use Rattle.buffer.specs.Steps.{Puttable}
 use Rattle.record.proofs.Bytes.{pair-at, listed-length}
 use Rattle.record.proofs.Records.{record_is, record-few}
 use Rattle.buffer.proofs.Collects.{Where, Collects, collects-none, collects-puttable, collects-more, collects-all}
@@ -104,7 +104,7 @@ module _ {n1 n2 : ℕ} {l : List Pair} (r : RecordForm n1 n2 l) (i : ℕ) {p : P
     next-falls = subst (λ m. Pairwise Falls m) next-split (pairwise_drop Falls i l r.falls)
 
 -- ---- THE INVARIANT of a merge at the places i and j
--- the buffer has collected all but what `rest` says of the pairs from there on, whose p1 is at most `top` of the next two
+-- the record b has collected all but what `rest` says of the pairs from there on, whose p1 is at most `top` of the next two
 pub record Merging (rest : List Pair → List Pair → Where) (top : ℕ → ℕ → ℕ) (n1 n2 : ℕ) (l r : List Pair) (i j : ℕ) (b : List ℕ) : Type 0 where
   pub form-left : RecordForm n1 n2 l
   pub form-right : RecordForm n1 n2 r
@@ -113,7 +113,7 @@ pub record Merging (rest : List Pair → List Pair → Where) (top : ℕ → ℕ
   pub collects : Collects n1 n2 (rest l r) (rest (drop i l) (drop j r)) (top (at l i).p1.0 (at r j).p1.0) b
 
 -- a merge of two records begins
-pub merging-none : {rest : List Pair → List Pair → Where} {top : ℕ → ℕ → ℕ} {x y b : List ℕ} {u v : ℕ} → Joinable x y → u ≡ record_size1 x → v ≡ record_size2 x → b ≡ u ∷ v ∷ replicate (longest - 2) 0
+pub merging-none : {rest : List Pair → List Pair → Where} {top : ℕ → ℕ → ℕ} {x y b : List ℕ} {u v : ℕ} → Joinable x y → u ≡ record_size1 x → v ≡ record_size2 x → b ≡ record_bytes u v []
     → Merging rest top (record_size1 x) (record_size2 x) (listed x) (listed y) 0 0 b
 merging-none {x = x} {y = y} k e f g =
     let s = (record_is x).0 k.left_is in
@@ -124,12 +124,12 @@ merging-none {x = x} {y = y} k e f g =
       form-right = rw (eqb→eq (record_size1 x) (record_size1 y) w.0, eqb→eq (record_size2 x) (record_size2 y) w.1) t.form;
       in_left = omega arith;
       in_right = omega arith;
-      collects = collects-none s.small1 s.small2 (g ∙ ap₂ (λ m n. m ∷ n ∷ replicate (longest - 2) 0) e f);
+      collects = collects-none s.small1 s.small2 (g ∙ ap₂ (λ m n. record_bytes m n []) e f);
     }
 
 -- what `put` left after the pair c
 abbrev pub PutIn : List ℕ → Pair → List ℕ → Type 0
-PutIn b c b' = (length b' ≡ longest) × (record_in b' ≡ front_bytes (record_size1 b) (record_size2 b) (listed (record_in b) ++ (c ∷ [])))
+PutIn b c b' = b' ≡ front_bytes (record_size1 b) (record_size2 b) (listed b ++ (c ∷ []))
 
 -- ---- series
 module _ {n1 n2 : ℕ} {l r : List Pair} {i j : ℕ} {b : List ℕ} (m : Merging both min n1 n2 l r i j b) (hi : i < length l) (hj : j < length r) {p q c : Pair} (ep : p ≡ at l i) (eq : q ≡ at r j) (ec : c ≡ min_pair p q) where
@@ -160,7 +160,7 @@ module _ {n1 n2 : ℕ} {l r : List Pair} {i j : ℕ} {b : List ℕ} (m : Merging
           form-right = m.form-right;
           in_left = omega arith;
           in_right = m.in_right;
-          collects = collects-more m.collects c c-in c-low s.0 s.1
+          collects = collects-more m.collects c c-in c-low s
               (λ x y.
               rw (next-split m.form-left i ep hi, next-split m.form-right j eq hj)
               (both-pass p q l' r' (next-falls m.form-right j eq hj) h x y ∙ ap (λ z. holds_at z x y || both l' (q ∷ r') x y) (sym ec)))
@@ -174,7 +174,7 @@ module _ {n1 n2 : ℕ} {l r : List Pair} {i j : ℕ} {b : List ℕ} (m : Merging
           form-right = m.form-right;
           in_left = m.in_left;
           in_right = omega arith;
-          collects = collects-more m.collects c c-in c-low s.0 s.1
+          collects = collects-more m.collects c c-in c-low s
               (λ x y.
               rw (next-split m.form-left i ep hi, next-split m.form-right j eq hj)
               (both-pass-right p q l' r' (next-falls m.form-left i ep hi) h x y ∙ ap (λ z. holds_at z x y || both (p ∷ l') r' x y) (sym ec)))
@@ -182,7 +182,7 @@ module _ {n1 n2 : ℕ} {l r : List Pair} {i j : ℕ} {b : List ℕ} (m : Merging
         }
 
 -- one list is at its end
-pub series-done : {n1 n2 : ℕ} {l r : List Pair} {i j : ℕ} {b : List ℕ} → Merging both min n1 n2 l r i j b → (length l ≤ i) ⊎ (length r ≤ j) → record_in b ≡ front_bytes n1 n2 (minima l r)
+pub series-done : {n1 n2 : ℕ} {l r : List Pair} {i j : ℕ} {b : List ℕ} → Merging both min n1 n2 l r i j b → (length l ≤ i) ⊎ (length r ≤ j) → b ≡ front_bytes n1 n2 (minima l r)
 series-done {n1} {n2} {l} {r} {i} {j} m h =
     collects-all m.collects (minima l r) (minima-within n1 n2 l r m.form-left.within m.form-right.within) (minima-holds l r)
     (λ x y. ⊎_elim (λ k. rw (drop_of_length-le l {i = i} k)) (λ k. rw (drop_of_length-le r {i = j} k) (and-false (holds (drop i l) x y))) h)
@@ -211,7 +211,7 @@ module _ {n1 n2 : ℕ} {l r : List Pair} {i j : ℕ} {b : List ℕ} (m : Merging
           form-right = m.form-right;
           in_left = omega (arith, left-some);
           in_right = m.in_right;
-          collects = collects-more m.collects p (next-in m.form-left i ep left-some) left-low s.0 s.1
+          collects = collects-more m.collects p (next-in m.form-left i ep left-some) left-low s
               (λ x y. rw (next-split m.form-left i ep left-some) (either-pass p (drop (i + 1) l) (drop j r) x y)) (omega (arith, tops2));
         }
 
@@ -232,12 +232,12 @@ module _ {n1 n2 : ℕ} {l r : List Pair} {i j : ℕ} {b : List ℕ} (m : Merging
           form-right = m.form-right;
           in_left = m.in_left;
           in_right = omega (arith, right-some);
-          collects = collects-more m.collects q (next-in m.form-right j eq right-some) right-low s.0 s.1
+          collects = collects-more m.collects q (next-in m.form-right j eq right-some) right-low s
               (λ x y. rw (next-split m.form-right j eq right-some) (either-pass-right q (drop i l) (drop (j + 1) r) x y)) (omega (arith, tops2));
         }
 
 -- both lists are at their ends
-pub parallel-done : {n1 n2 : ℕ} {l r : List Pair} {i j : ℕ} {b : List ℕ} → Merging either max n1 n2 l r i j b → length l + length r ≤ i + j → record_in b ≡ front_bytes n1 n2 (l ++ r)
+pub parallel-done : {n1 n2 : ℕ} {l r : List Pair} {i j : ℕ} {b : List ℕ} → Merging either max n1 n2 l r i j b → length l + length r ≤ i + j → b ≡ front_bytes n1 n2 (l ++ r)
 parallel-done {n1} {n2} {l} {r} {i} {j} m h =
     collects-all m.collects (l ++ r) (append-within n1 n2 l r m.form-left.within m.form-right.within) (λ x y. any_append (λ p. holds_at p x y) l r)
     (λ x y. rw (drop_of_length-le l {i = i} (omega (arith, m.in_right)), drop_of_length-le r {i = j} (omega (arith, m.in_left))))

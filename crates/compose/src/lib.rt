@@ -1,16 +1,16 @@
 // Series and parallel (01: row and side): two front records joined into one.
 //
-// Each merges its two records in one pass, pair by pair, into a local buffer, and only then looks
-// at the output slice: a refusal has written nothing.
+// Each merges its two records in one pass, pair by pair, into a record of its own, and only then
+// looks at the output slice: a refusal has written nothing.
 #![tactic(auto)]
 
 ghost use Rattle.std.specs.Prelude.{◌≡◌, [], ◌∷◌, length};
 ghost use Rattle.answer.specs.Outcome.{written, done, outcome};
-ghost use Rattle.buffer.specs.Steps.{record_in};
 ghost use Rattle.compose.specs.Compose.{record_tests, series_bytes, parallel_bytes, series_answer, series_out, parallel_answer, parallel_out};
 ghost use Rattle.compose.specs.Steps.{Joinable};
 
 use answer::Refusal;
+use buffer::FrontRecord;
 
 // The series of two records: it holds where both do.
 pub fn series(left: &[u8], right: &[u8], out: &mut [u8]) -> Result<usize, Refusal>
@@ -20,7 +20,7 @@ pub fn series(left: &[u8], right: &[u8], out: &mut [u8]) -> Result<usize, Refusa
     if let Err(r) = joinable(left, right) {
         return Err(r);
     }
-    buffer::deliver(merge_series(left, right), out)
+    merge_series(left, right).deliver(out)
 }
 
 // The parallel of two records: it holds where one of them does.
@@ -31,7 +31,7 @@ pub fn parallel(left: &[u8], right: &[u8], out: &mut [u8]) -> Result<usize, Refu
     if let Err(r) = joinable(left, right) {
         return Err(r);
     }
-    buffer::deliver(merge_parallel(left, right), out)
+    merge_parallel(left, right).deliver(out)
 }
 
 // Numbers 12 and 13.
@@ -53,14 +53,14 @@ fn joinable(left: &[u8], right: &[u8]) -> Result<(), Refusal>
 
 // The front of all pairwise minima. Of two pairs the one with the smaller p2 is done with: its
 // minimum with any later pair of the other record is no larger.
-fn merge_series(left: &[u8], right: &[u8]) -> [u8; buffer::LONGEST]
+fn merge_series(left: &[u8], right: &[u8]) -> FrontRecord
     requires { Joinable left.now right.now }
-    ensures { record_in result ≡ series_bytes left.now right.now }
+    ensures { result ≡ series_bytes left.now right.now }
 {
     let l = record::read_head(left);
     let k = l.k;
     let m = record::read_head(right).k;
-    let mut joined = buffer::empty(l.n1, l.n2);
+    let mut joined = FrontRecord::empty(l.n1, l.n2);
     let mut i: u8 = 0;
     let mut j: u8 = 0;
     while i < k {
@@ -69,7 +69,7 @@ fn merge_series(left: &[u8], right: &[u8]) -> [u8; buffer::LONGEST]
         }
         let p = record::pair_at(left, i);
         let q = record::pair_at(right, j);
-        buffer::put(&mut joined, p.min(q));
+        joined.put(p.min(q));
         if q.p2.at_least(p.p2) {
             i += 1;
             continue;
@@ -80,24 +80,24 @@ fn merge_series(left: &[u8], right: &[u8]) -> [u8; buffer::LONGEST]
 }
 
 // The front of both lists together, taken in the order of falling p1.
-fn merge_parallel(left: &[u8], right: &[u8]) -> [u8; buffer::LONGEST]
+fn merge_parallel(left: &[u8], right: &[u8]) -> FrontRecord
     requires { Joinable left.now right.now }
-    ensures { record_in result ≡ parallel_bytes left.now right.now }
+    ensures { result ≡ parallel_bytes left.now right.now }
 {
     let l = record::read_head(left);
     let pairs = l.k + record::read_head(right).k;
-    let mut joined = buffer::empty(l.n1, l.n2);
+    let mut joined = FrontRecord::empty(l.n1, l.n2);
     let mut i: u8 = 0;
     let mut j: u8 = 0;
     while i + j < pairs {
         let p = record::pair_at(left, i);
         let q = record::pair_at(right, j);
         if p.p1.at_least(q.p1) {
-            buffer::put(&mut joined, p);
+            joined.put(p);
             i += 1;
             continue;
         }
-        buffer::put(&mut joined, q);
+        joined.put(q);
         j += 1;
     }
     joined

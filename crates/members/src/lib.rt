@@ -11,16 +11,10 @@ ghost use Rattle.members.specs.Steps.{elements_in, table_size, Tabled, Lists, By
 
 use limits::{ARC, MAX_CLASS};
 use orders::same;
+use parts::Sizes;
 
 // A place for each member, and one more, which is written and not counted.
 const TABLE: usize = MAX_CLASS + 1;
-
-// How many members of each class are in their tables.
-#[derive(Clone, Copy)]
-struct Sizes {
-    n1: usize,
-    n2: usize,
-}
 
 // The nodes: each is written into both tables, and counted in that of its class.
 fn put_nodes(nodes: &[u8], table1: &mut [u16], table2: &mut [u16]) -> Sizes
@@ -33,16 +27,13 @@ fn put_nodes(nodes: &[u8], table1: &mut [u16], table2: &mut [u16]) -> Sizes
 {
     let mut n1: usize = 0;
     let mut n2: usize = 0;
-    let mut v: usize = 0;
-    while v < nodes.len() {
-        let class = nodes[v];
+    for (v, &class) in nodes.iter().enumerate() {
         table1[n1] = v as u16;
         table2[n2] = v as u16;
         n1 += same(class, 1) as usize;
         n2 += same(class, 2) as usize;
-        v += 1;
     }
-    Sizes { n1: n1, n2: n2 }
+    Sizes { n1, n2 }
 }
 
 // And the arcs, until all members are in: none where no arc may fail.
@@ -66,6 +57,7 @@ fn put_arcs(
     let mut n1 = begin.n1;
     let mut n2 = begin.n2;
     let mut i: usize = 0;
+    // a while: the count of members ends it, and where the last one stands is not known
     while n1 + n2 < total {
         let class = arcs[ARC * i + 2] % 3;
         let element = (nodes.len() + i) as u16;
@@ -85,10 +77,8 @@ fn look_up(table: &[u16], order: &[u8], out: &mut [u16])
     ensures named { (k : ℕ) → k < length order.now
         → get_or out.new k 0 ≡ get_or table.now (get_or order.now k 0) 0 }
 {
-    let mut k: usize = 0;
-    while k < order.len() {
-        out[k] = table[order[k] as usize];
-        k += 1;
+    for (k, &place) in order.iter().enumerate() {
+        out[k] = table[place as usize];
     }
 }
 

@@ -1,5 +1,5 @@
 -- The steps of `spread`'s loop, over lists: an arc that is relaxed, and the three kinds of raise.
-use mathlib.Core.Path.{◌≡◌, sym, ap, ◌∙◌, subst}
+use mathlib.Core.Path.{◌≡◌, refl, sym, ap, ◌∙◌, subst}
 use mathlib.Core.Logic.{⊎_elim}
 use mathlib.Core.Bool.{Bool, true, false, cond, ◌&&◌}
 use mathlib.Core.List.{List, [], ◌∷◌}
@@ -349,6 +349,12 @@ module _ {f : Graph} {capacities links : List ℕ} {a l : ℕ} {d₀ stack₀ wa
           lent = q.lent;
           room = omega (arith, q.room, length-set d u c, length-set stack top (start_at (length capacities / 2) links p));
         }
+
+-- the turn at the arc that the chain is at
+pub turn-at : {f : Graph} {capacities links : List ℕ} {a l : ℕ} {d₀ stack₀ wait₀ : List ℕ} {top₀ : ℕ} {d stack wait : List ℕ} {top v i c : ℕ}
+    → Spreading f capacities links a l d₀ stack₀ wait₀ top₀ d stack wait top v i → 0 < i → c ≡ min l (get_or capacities (length capacities / 2 + start_at (length capacities / 2) links (i - 1)) 0)
+    → Turn f capacities links a l d₀ stack₀ wait₀ top₀ d stack wait top v i (i - 1) (more_at (length capacities / 2) links (i - 1)) (start_at (length capacities / 2) links (i - 1)) c
+turn-at {i = i} s h e = record { state = s; is-p = omega arith; is_m = refl; is-u = start_is s (i - 1) (omega arith); is-raise = e }
 
 -- the chain has ended
 pub idle : {f : Graph} {a l : ℕ} {d stack wait : List ℕ} {top v i : ℕ} → Work f a l d stack wait top v i → i ≡ 0 → Work f a l d stack wait top v 0

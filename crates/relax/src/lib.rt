@@ -7,7 +7,6 @@ ghost use Rattle.relax.specs.Steps.{Graph, moved, mark_at, growth, Work, Kept, R
 
 use front::{Pos, Pos1, Pos2};
 
-
 // Where a spread stands: the source; x, one more than the class 1 failures; the level that spreads,
 // the node at work and the height of the stack.
 #[derive(Clone, Copy)]

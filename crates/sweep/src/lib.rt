@@ -13,7 +13,6 @@ use front::{Pair, Pos, Pos1, Pos2};
 use limits::MAX_POSITION;
 use relax::Step;
 
-
 // Puts the pair, where its p2 is above the last.
 fn collect(found: &mut [u8; LONGEST], p: Pair, last: Pos2)
     requires { (length found.old ≡ longest) × (last.0 < p.p2.0 → Puttable found.old p) }

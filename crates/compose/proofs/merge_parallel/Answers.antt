@@ -1,4 +1,4 @@
--- `compose::merge_parallel`: the buffer has collected all pairs but those that are left (`Merging either max`).
+-- `compose::merge_parallel`: the record has collected all pairs but those that are left (`Merging either max`).
 use mathlib.Core.Path.{sym, ◌∙◌}
 use native.Mathlib.Omega.{arith}
 use borrow.Author.Tests.{leb-true, leb-false}
@@ -28,7 +28,7 @@ loop-i-preserved-then-at_least c =
     let l = c.loop-i in
     let p-is = pair_is c.args.left.now c.requires.left_is l.i c.pair_at-p.ensures in
     let q-is = pair_is c.args.right.now c.requires.right_is l.j c.pair_at-q.ensures in
-    (parallel-left l.invariant.0 (omega arith) p-is q-is (leb-true _ _ (sym c.at_least.ensures ∙ c.if-at_least.true)) (c.put.ensures.long, c.put.ensures.front), l.invariant.1, l.invariant.2)
+    (parallel-left l.invariant.0 (omega arith) p-is q-is (leb-true _ _ (sym c.at_least.ensures ∙ c.if-at_least.true)) c.put.ensures, l.invariant.1, l.invariant.2)
 
 pub put-requires-in-loop-i : goal.put-requires-in-loop-i
 put-requires-in-loop-i c =
@@ -40,7 +40,7 @@ loop-i-preserved c =
     let l = c.loop-i in
     let p-is = pair_is c.args.left.now c.requires.left_is l.i c.pair_at-p.ensures in
     let q-is = pair_is c.args.right.now c.requires.right_is l.j c.pair_at-q.ensures in
-    (parallel-right l.invariant.0 (omega arith) p-is q-is (leb-false _ _ (sym c.at_least.ensures ∙ c.if-at_least.false)) (c.put-in-loop-i.ensures.long, c.put-in-loop-i.ensures.front), l.invariant.1, l.invariant.2)
+    (parallel-right l.invariant.0 (omega arith) p-is q-is (leb-false _ _ (sym c.at_least.ensures ∙ c.if-at_least.false)) c.put-in-loop-i.ensures, l.invariant.1, l.invariant.2)
 
 pub returns : goal.returns
 returns c = parallel-done c.loop-i.invariant.0 (omega arith)

@@ -1,4 +1,4 @@
--- `compose::merge_parallel`: the buffer has collected all pairs but those that are left (`Merging either max`).
+-- `compose::merge_parallel`: the record has collected all pairs but those that are left (`Merging either max`).
 use mathlib.Core.Path.{◌≡◌}
 use Prim.Native.Nat.{max, ◌+◌, ◌-◌, ◌≤◌}
 use lib.ListN.{length}

@@ -1,4 +1,4 @@
--- `compose::merge_series`: the buffer has collected all minima but those of the pairs that are left (`Merging both min`).
+-- `compose::merge_series`: the record has collected all minima but those of the pairs that are left (`Merging both min`).
 use mathlib.Core.Path.{sym, ◌∙◌}
 use mathlib.Core.Logic.{inl, inr}
 use native.Mathlib.Nat.{le_of_lt}
@@ -27,14 +27,14 @@ loop-i-preserved-then-at_least c =
     let l = c.loop-i in
     let p-is = pair_is c.args.left.now c.requires.left_is l.i c.pair_at-p.ensures in
     let q-is = pair_is c.args.right.now c.requires.right_is l.j c.pair_at-q.ensures in
-    (series-left l.invariant.0 (omega arith) (omega arith) p-is q-is c.min.ensures (c.put.ensures.long, c.put.ensures.front) (leb-true _ _ (sym c.at_least.ensures ∙ c.if-at_least.true)), l.invariant.1, l.invariant.2, l.invariant.3, l.invariant.4)
+    (series-left l.invariant.0 (omega arith) (omega arith) p-is q-is c.min.ensures c.put.ensures (leb-true _ _ (sym c.at_least.ensures ∙ c.if-at_least.true)), l.invariant.1, l.invariant.2, l.invariant.3, l.invariant.4)
 
 pub loop-i-preserved : goal.loop-i-preserved
 loop-i-preserved c =
     let l = c.loop-i in
     let p-is = pair_is c.args.left.now c.requires.left_is l.i c.pair_at-p.ensures in
     let q-is = pair_is c.args.right.now c.requires.right_is l.j c.pair_at-q.ensures in
-    (series-right l.invariant.0 (omega arith) (omega arith) p-is q-is c.min.ensures (c.put.ensures.long, c.put.ensures.front) (le_of_lt (leb-false _ _ (sym c.at_least.ensures ∙ c.if-at_least.false))), l.invariant.1, l.invariant.2, l.invariant.3, l.invariant.4)
+    (series-right l.invariant.0 (omega arith) (omega arith) p-is q-is c.min.ensures c.put.ensures (le_of_lt (leb-false _ _ (sym c.at_least.ensures ∙ c.if-at_least.false))), l.invariant.1, l.invariant.2, l.invariant.3, l.invariant.4)
 
 pub returns : goal.returns
 returns c = series-done c.loop-i.invariant.0 (inl (omega arith))

@@ -1,4 +1,4 @@
--- `compose::merge_series`: the buffer has collected all minima but those of the pairs that are left (`Merging both min`).
+-- `compose::merge_series`: the record has collected all minima but those of the pairs that are left (`Merging both min`).
 use mathlib.Core.Path.{◌≡◌}
 use Prim.Native.Nat.{min, ◌+◌, ◌-◌, ◌≤◌}
 use lib.ListN.{length}

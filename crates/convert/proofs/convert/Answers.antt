@@ -22,9 +22,9 @@ use Rattle.convert.proofs.Writes.{bytes_same, long-is, long-small, words_are}
 use borrow.Author.Rules.{rules}
 use Rattle.convert.proofs.convert.Goals as goal
 
-pub returns-in-Refused : goal.returns-in-Refused
-returns-in-Refused c = let f = c.args.old.now in
-    let both = fill-refused (convert_tests f) (convert_bytes f) c.args.out.now _ (sym c.test_old.ensures ∙ ap done c.in-Refused.is) in record { answer = both.0; slice = both.1 }
+pub returns-in-Err : goal.returns-in-Err
+returns-in-Err c = let f = c.args.old.now in
+    let both = fill-refused (convert_tests f) (convert_bytes f) c.args.out.now _ (sym c.test_old.ensures ∙ ap done c.in-Err.is) in record { answer = both.0; slice = both.1 }
 
 pub overflow_mul-dm : goal.overflow_mul-dm
 overflow_mul-dm c =

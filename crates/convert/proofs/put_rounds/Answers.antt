@@ -17,7 +17,7 @@ loop-i-init c = let a = c.args in (omega arith, paste-zero a.out.now a.at (map (
 pub bounds-place-v : goal.bounds-place-v
 bounds-place-v c = let r = c.args.rounds.now in
     let i = c.loop-i.i in
-    omega (arith, c.wide-v.ensures, c.requires.nodes (get_or r i 0) (at_in r i 0 (omega arith)))
+    omega (arith, c.requires.nodes (get_or r i 0) (at_in r i 0 (omega arith)))
 
 pub bounds-out-at : goal.bounds-out-at
 bounds-out-at c = let a = c.args in let l = c.loop-i in omega (arith, ap length l.invariant.1, written-length (said a.place.now) a.rounds.now a.out.now a.at c.requires.room l.i (omega arith))
@@ -25,7 +25,7 @@ bounds-out-at c = let a = c.args in let l = c.loop-i in omega (arith, ap length 
 pub loop-i-preserved : goal.loop-i-preserved
 loop-i-preserved c = let a = c.args in
     let l = c.loop-i in
-    (omega arith, ap₂ (λ d v. set d (a.at + l.i) (said a.place.now v)) l.invariant.1 c.wide-v.ensures.0 ∙ written_next (said a.place.now) a.rounds.now a.out.now a.at c.requires.room l.i (omega arith))
+    (omega arith, ap (λ d. set d (a.at + l.i) (said a.place.now (get_or a.rounds.now l.i 0))) l.invariant.1 ∙ written_next (said a.place.now) a.rounds.now a.out.now a.at c.requires.room l.i (omega arith))
 
 pub shape_of-out : goal.shape_of-out
 shape_of-out c = let a = c.args in

@@ -20,10 +20,10 @@ use Rattle.convert.proofs.Stages.{first_tests, next_tests, first-refused, first_
 use borrow.Author.Rules.{rules}
 use Rattle.convert.proofs.test_old.Goals as goal
 
-pub returns-in-Refused : goal.returns-in-Refused
-returns-in-Refused c =
+pub returns-in-Err : goal.returns-in-Err
+returns-in-Err c =
     let first : done c.test_trailer.result ≡ outcome (first_tests c.args.old.now) (0 ∷ []) = c.test_trailer.ensures ∙ ap (λ (h : Trailer). outcome (trailer_tests old_arc_size (length c.args.old.now) h) (0 ∷ [])) c.read_trailer-t.ensures in
-    first-refused c.args.old.now _ (sym (first) ∙ ap done c.in-Refused.is)
+    first-refused c.args.old.now _ (sym (first) ∙ ap done c.in-Err.is)
 
 pub test_old_parts-requires : goal.test_old_parts-requires
 test_old_parts-requires c =
@@ -32,12 +32,12 @@ test_old_parts-requires c =
     let f = c.args.old.now in
     omega (arith, ap length c.node_bytes-nodes.ensures, nodes-length f (passed), (first_fits f (passed)).nodes-most)
 
-pub returns-in-Refused-test_old_parts : goal.returns-in-Refused-test_old_parts
-returns-in-Refused-test_old_parts c =
+pub returns-in-Err-test_old_parts : goal.returns-in-Err-test_old_parts
+returns-in-Err-test_old_parts c =
     let first : done c.test_trailer.result ≡ outcome (first_tests c.args.old.now) (0 ∷ []) = c.test_trailer.ensures ∙ ap (λ (h : Trailer). outcome (trailer_tests old_arc_size (length c.args.old.now) h) (0 ∷ [])) c.read_trailer-t.ensures in
     let passed : outcome (first_tests c.args.old.now) (0 ∷ []) ≡ success (0 ∷ []) = sym (first) ∙ ap done c.in_default.is in
     let next : done c.test_old_parts.result ≡ outcome (next_tests c.args.old.now) (0 ∷ []) = c.test_old_parts.ensures ∙ same_parts c.args.old.now (passed) c.node_bytes-nodes.result.now c.arc_bytes.result.now c.node_bytes-nodes.ensures c.arc_bytes.ensures in
-    next-refused c.args.old.now (passed) _ (sym (next) ∙ ap done c.in-Refused-test_old_parts.is)
+    next-refused c.args.old.now (passed) _ (sym (next) ∙ ap done c.in-Err-test_old_parts.is)
 
 pub overflow_mul-dm : goal.overflow_mul-dm
 overflow_mul-dm c =

@@ -11,9 +11,9 @@ use Rattle.convert.proofs.Stages.{nodes-refused, nodes-passed}
 use borrow.Author.Rules.{rules}
 use Rattle.convert.proofs.test_old_parts.Goals as goal
 
-pub returns-in-Refused : goal.returns-in-Refused
-returns-in-Refused c = let a = c.args in
-    nodes-refused (length a.nodes.now) a.nodes.now a.arcs.now _ (refused_as (part_tests (length a.nodes.now) a.nodes.now []) _ (0 ∷ []) _ (sym c.test_parts.ensures ∙ ap counted c.in-Refused.is))
+pub returns-in-Err : goal.returns-in-Err
+returns-in-Err c = let a = c.args in
+    nodes-refused (length a.nodes.now) a.nodes.now a.arcs.now _ (refused_as (part_tests (length a.nodes.now) a.nodes.now []) _ (0 ∷ []) _ (sym c.test_parts.ensures ∙ ap counted c.in-Err.is))
 
 pub returns-then-bad_old_arcs : goal.returns-then-bad_old_arcs
 returns-then-bad_old_arcs c =

@@ -1,5 +1,5 @@
 -- `labels::flood` goes from level to level until none waits above the source's label.
-use mathlib.Core.Path.{◌≡◌, ap, subst}
+use mathlib.Core.Path.{◌≡◌, refl, subst}
 use mathlib.Core.List.{[]}
 use Prim.Native.Nat.{suc, ◌+◌, ◌-◌, ◌≤◌, ◌<◌}
 use native.Mathlib.Nat.{pos_of_ne-zero}
@@ -61,7 +61,7 @@ offset_bounds-wait-p c =
     Floodable f a.capacities.now a.links.now a.begin a.label.now a.stack.now a.wait.now
     → Work f (a.begin.x.0 - 1) c.loop-begin.level.0 c.drain.new.label [] c.drain.new.wait 0 0 0 = λ f b. (let l = c.loop-begin in (rw c.step_to-at.ensures at c.drain.ensures.work) f (leveled c.args.begin b l.level.0 l.node (l.invariant f b))) in
     let after : Work c.requires.0 (c.args.begin.x.0 - 1) c.loop-begin.level.0 c.drain.new.label [] c.drain.new.wait 0 0 0 = afters c.requires.0 c.requires.1 in
-    let marked : (c.wide-p.result < max_position + 1) × (c.wide-p.result < length c.drain.new.wait) = let w = after in omega (arith, w.long-wait, w.high, w.laid.small2, c.next_level-level.ensures.found (omega arith), c.wide-p.ensures) in
+    let marked : (c.next_level-level.result.0 < max_position + 1) × (c.next_level-level.result.0 < length c.drain.new.wait) = let w = after in omega (arith, w.long-wait, w.high, w.laid.small2, c.next_level-level.ensures.found (omega arith)) in
     omega (arith, marked)
 
 pub bounds-wait-p : goal.bounds-wait-p
@@ -71,13 +71,13 @@ bounds-wait-p c =
     Floodable f a.capacities.now a.links.now a.begin a.label.now a.stack.now a.wait.now
     → Work f (a.begin.x.0 - 1) c.loop-begin.level.0 c.drain.new.label [] c.drain.new.wait 0 0 0 = λ f b. (let l = c.loop-begin in (rw c.step_to-at.ensures at c.drain.ensures.work) f (leveled c.args.begin b l.level.0 l.node (l.invariant f b))) in
     let after : Work c.requires.0 (c.args.begin.x.0 - 1) c.loop-begin.level.0 c.drain.new.label [] c.drain.new.wait 0 0 0 = afters c.requires.0 c.requires.1 in
-    let marked : (c.wide-p.result < max_position + 1) × (c.wide-p.result < length c.drain.new.wait) = let w = after in omega (arith, w.long-wait, w.high, w.laid.small2, c.next_level-level.ensures.found (omega arith), c.wide-p.ensures) in
+    let marked : (c.next_level-level.result.0 < max_position + 1) × (c.next_level-level.result.0 < length c.drain.new.wait) = let w = after in omega (arith, w.long-wait, w.high, w.laid.small2, c.next_level-level.ensures.found (omega arith)) in
     omega (arith, marked)
 
 pub overflow_sub-node : goal.overflow_sub-node
 overflow_sub-node c =
     let named : 1 ≤ get_or c.drain.new.wait c.next_level-level.result.0 0 = pos_of_ne-zero (c.next_level-level.ensures.found (omega arith)).2 in
-    omega (arith, named, ap (λ k. get_or c.drain.new.wait k 0) c.wide-p.ensures.0)
+    omega (arith, named)
 
 pub offset_bounds-wait-p-in-loop-begin : goal.offset_bounds-wait-p-in-loop-begin
 offset_bounds-wait-p-in-loop-begin c =
@@ -86,7 +86,7 @@ offset_bounds-wait-p-in-loop-begin c =
     Floodable f a.capacities.now a.links.now a.begin a.label.now a.stack.now a.wait.now
     → Work f (a.begin.x.0 - 1) c.loop-begin.level.0 c.drain.new.label [] c.drain.new.wait 0 0 0 = λ f b. (let l = c.loop-begin in (rw c.step_to-at.ensures at c.drain.ensures.work) f (leveled c.args.begin b l.level.0 l.node (l.invariant f b))) in
     let after : Work c.requires.0 (c.args.begin.x.0 - 1) c.loop-begin.level.0 c.drain.new.label [] c.drain.new.wait 0 0 0 = afters c.requires.0 c.requires.1 in
-    let marked : (c.wide-p.result < max_position + 1) × (c.wide-p.result < length c.drain.new.wait) = let w = after in omega (arith, w.long-wait, w.high, w.laid.small2, c.next_level-level.ensures.found (omega arith), c.wide-p.ensures) in
+    let marked : (c.next_level-level.result.0 < max_position + 1) × (c.next_level-level.result.0 < length c.drain.new.wait) = let w = after in omega (arith, w.long-wait, w.high, w.laid.small2, c.next_level-level.ensures.found (omega arith)) in
     omega (arith, marked)
 
 pub bounds-wait-p-in-loop-begin : goal.bounds-wait-p-in-loop-begin
@@ -96,7 +96,7 @@ bounds-wait-p-in-loop-begin c =
     Floodable f a.capacities.now a.links.now a.begin a.label.now a.stack.now a.wait.now
     → Work f (a.begin.x.0 - 1) c.loop-begin.level.0 c.drain.new.label [] c.drain.new.wait 0 0 0 = λ f b. (let l = c.loop-begin in (rw c.step_to-at.ensures at c.drain.ensures.work) f (leveled c.args.begin b l.level.0 l.node (l.invariant f b))) in
     let after : Work c.requires.0 (c.args.begin.x.0 - 1) c.loop-begin.level.0 c.drain.new.label [] c.drain.new.wait 0 0 0 = afters c.requires.0 c.requires.1 in
-    let marked : (c.wide-p.result < max_position + 1) × (c.wide-p.result < length c.drain.new.wait) = let w = after in omega (arith, w.long-wait, w.high, w.laid.small2, c.next_level-level.ensures.found (omega arith), c.wide-p.ensures) in
+    let marked : (c.next_level-level.result.0 < max_position + 1) × (c.next_level-level.result.0 < length c.drain.new.wait) = let w = after in omega (arith, w.long-wait, w.high, w.laid.small2, c.next_level-level.ensures.found (omega arith)) in
     omega (arith, marked)
 
 pub loop-begin-smaller : goal.loop-begin-smaller
@@ -115,6 +115,6 @@ loop-begin-preserved c =
     let named : 1 ≤ get_or c.drain.new.wait c.next_level-level.result.0 0 = pos_of_ne-zero (c.next_level-level.ensures.found (omega arith)).2 in
     λ f b.
     let w = c.drain.new.wait in
-    let p = c.wide-p.result in
-    let is : get_or w c.next_level-level.result.0 0 ≡ suc (get_or w p 0 - 1) = omega (arith, named, ap (λ k. get_or w k 0) c.wide-p.ensures.0) in
-    flooded (c.loop-begin.invariant f b) (afters f b) c.drain.ensures.long (level-is f b) (omega arith) p c.wide-p.ensures.0 (get_or w p 0 - 1) is
+    let p = c.next_level-level.result.0 in
+    let is : get_or w c.next_level-level.result.0 0 ≡ suc (get_or w p 0 - 1) = omega (arith, named) in
+    flooded (c.loop-begin.invariant f b) (afters f b) c.drain.ensures.long (level-is f b) (omega arith) p refl (get_or w p 0 - 1) is

@@ -1,12 +1,8 @@
 -- `members::look_up`: the first k places are filled in.
 use Rattle.members.proofs.Tables.{Naming}
 use mathlib.Core.Path.{◌≡◌}
-use Prim.Native.Nat.{◌-◌}
 use lib.ListN.{length}
 use Rattle.members.proofs.look_up.Given as goal
 
 abbrev pub invariant-loop-k : goal.invariant-loop-k
 invariant-loop-k l = Naming l.table l.order l.out l.k × (length l.out ≡ length l.initial.out)
-
-abbrev pub decreases-loop-k : goal.decreases-loop-k
-decreases-loop-k l = length l.order - l.k

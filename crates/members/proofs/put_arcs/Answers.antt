@@ -1,6 +1,6 @@
 -- `members::put_arcs`: the members among all nodes and the arcs before place i are in both tables; while one is missing, arcs are left.
 use Rattle.members.proofs.Tables.{arcs-begin, fits, arcs-left, arc-stepped, all_in, most}
-use mathlib.Core.Path.{refl, ◌∙◌}
+use mathlib.Core.Path.{refl}
 use native.Mathlib.Omega.{arith}
 use lib.ListN.{length-set}
 use Rattle.members.proofs.put_arcs.Goals as goal
@@ -39,7 +39,7 @@ pub loop-n1-smaller : goal.loop-n1-smaller
 loop-n1-smaller c = let a = c.args in let l = c.loop-n1.invariant in let left = arcs-left a.nodes.now a.arcs.now l.0 l.1 (omega (arith, c.requires.total)) in omega arith
 
 pub loop-n1-preserved : goal.loop-n1-preserved
-loop-n1-preserved c = let a = c.args in let l = c.loop-n1.invariant in let left = arcs-left a.nodes.now a.arcs.now l.0 l.1 (omega (arith, c.requires.total)) in (arc-stepped a.nodes.now a.arcs.now l.0 left c.wide-n1.result (c.wide-n1.ensures.0 ∙ c.same.ensures.0), arc-stepped a.nodes.now a.arcs.now l.1 left c.wide-n2.result (c.wide-n2.ensures.0 ∙ c.same-in-loop-n1.ensures.0), rw length-set l.2, rw length-set l.3)
+loop-n1-preserved c = let a = c.args in let l = c.loop-n1.invariant in let left = arcs-left a.nodes.now a.arcs.now l.0 l.1 (omega (arith, c.requires.total)) in (arc-stepped a.nodes.now a.arcs.now l.0 left c.same.result c.same.ensures.0, arc-stepped a.nodes.now a.arcs.now l.1 left c.same-in-loop-n1.result c.same-in-loop-n1.ensures.0, rw length-set l.2, rw length-set l.3)
 
 pub returns : goal.returns
 returns c = let l = c.loop-n1.invariant in let t = c.requires.total in record { long1 = l.2; long2 = l.3; one = all_in l.0 (omega (arith, most l.1)); two = all_in l.1 (omega (arith, most l.0)) }

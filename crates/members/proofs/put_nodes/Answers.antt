@@ -1,6 +1,6 @@
 -- `members::put_nodes`: the members among the nodes before v are in both tables.
 use Rattle.members.proofs.Tables.{none_yet, fits, stepped, nodes-done}
-use mathlib.Core.Path.{refl, ◌∙◌}
+use mathlib.Core.Path.{refl}
 use native.Mathlib.Omega.{arith}
 use lib.ListN.{length-set}
 use Rattle.members.proofs.put_nodes.Goals as goal
@@ -21,13 +21,13 @@ pub bounds-table2-n2 : goal.bounds-table2-n2
 bounds-table2-n2 c = omega (arith, fits c.loop-v.invariant.1)
 
 pub overflow_add-n1 : goal.overflow_add-n1
-overflow_add-n1 c = omega (arith, fits c.loop-v.invariant.0, c.wide-n1.ensures)
+overflow_add-n1 c = omega (arith, fits c.loop-v.invariant.0)
 
 pub overflow_add-n2 : goal.overflow_add-n2
-overflow_add-n2 c = omega (arith, fits c.loop-v.invariant.1, c.wide-n2.ensures)
+overflow_add-n2 c = omega (arith, fits c.loop-v.invariant.1)
 
 pub loop-v-preserved : goal.loop-v-preserved
-loop-v-preserved c = let l = c.loop-v.invariant in (stepped l.0 (omega arith) c.wide-n1.result (c.wide-n1.ensures.0 ∙ c.same.ensures.0), stepped l.1 (omega arith) c.wide-n2.result (c.wide-n2.ensures.0 ∙ c.same-in-loop-v.ensures.0), rw length-set l.2, rw length-set l.3)
+loop-v-preserved c = let l = c.loop-v.invariant in (stepped l.0 (omega arith) c.same.result c.same.ensures.0, stepped l.1 (omega arith) c.same-in-loop-v.result c.same-in-loop-v.ensures.0, rw length-set l.2, rw length-set l.3)
 
 pub returns : goal.returns
 returns c = let l = c.loop-v.invariant in record { long1 = l.2; long2 = l.3; one = nodes-done l.0 (omega arith); two = nodes-done l.1 (omega arith) }

@@ -1,7 +1,6 @@
 -- `orders::are_orders` tests the first n1 bytes and the rest.
 use mathlib.Core.Path.{sym, ap, ap₂, ◌∙◌}
 use mathlib.Core.Bool.{◌&&◌}
-use native.Mathlib.Nat.{sub-zero}
 use native.Mathlib.Omega.{arith}
 use lib.ListN.{length-take, take, drop}
 use Rattle.laws.specs.Parts.{tail-part}
@@ -15,4 +14,4 @@ returns-then-round-n1 c = let a = c.args in
 
 pub returns : goal.returns
 returns c = let a = c.args in
-    ap₂ ◌&&◌ (c.is_order.ensures ∙ ap (λ n. is_order_of 1 a.classes1.now (take n a.round.now)) (sub-zero a.n1)) (c.is_order-2.ensures ∙ ap (is_order_of 2 a.classes2.now) (tail-part a.round.now a.n1))
+    ap₂ ◌&&◌ c.is_order.ensures (c.is_order-2.ensures ∙ ap (is_order_of 2 a.classes2.now) (tail-part a.round.now a.n1))

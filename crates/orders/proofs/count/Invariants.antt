@@ -1,12 +1,9 @@
 -- `orders::count`: what was counted, and what stands from the next part on, make the whole.
 use mathlib.Core.Path.{◌≡◌}
-use Prim.Native.Nat.{◌+◌, ◌-◌, ◌≤◌}
-use lib.ListN.{drop, length}
+use Prim.Native.Nat.{◌+◌}
+use lib.ListN.{drop}
 use Rattle.orders.specs.Order.{count}
 use Rattle.orders.proofs.count.Given as goal
 
 abbrev pub invariant-loop-at : goal.invariant-loop-at
-invariant-loop-at l = (l.at ≤ length l.bytes + 254) × (count l.x l.bytes ≡ l.n + count l.x (drop l.at l.bytes))
-
-abbrev pub decreases-loop-at : goal.decreases-loop-at
-decreases-loop-at l = length l.bytes + 255 - l.at
+invariant-loop-at l = count l.x l.bytes ≡ l.n + count l.x (drop l.at l.bytes)

@@ -1,5 +1,4 @@
 -- `relax::growth` is 1 where the node has the level and is in, else 0.
-use borrow.Author.Rules.{rules}
 use Rattle.relax.proofs.growth.Goals as goal
 
 pub returns-then-at_least : goal.returns-then-at_least

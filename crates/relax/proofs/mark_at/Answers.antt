@@ -1,10 +1,9 @@
 -- `relax::mark_at` is the level where it waits, else 0.
 use mathlib.Core.Path.{sym, ◌∙◌}
-use borrow.Author.Rules.{rules}
 use Rattle.relax.proofs.mark_at.Goals as goal
 
 pub returns-then-at_least : goal.returns-then-at_least
 returns-then-at_least c = rw (sym c.at_least.ensures ∙ c.if-at_least.true)
 
 pub returns : goal.returns
-returns c = rw (sym c.at_least.ensures ∙ c.if-at_least.false) c.wide.ensures.0
+returns c = rw (sym c.at_least.ensures ∙ c.if-at_least.false)

@@ -1,13 +1,7 @@
 -- `relax::spread` follows the chain of the node at work, in every network that the slices hold; an arc raises nothing or raises a label.
-use mathlib.Core.Path.{refl, sym, ◌∙◌}
-use Prim.Native.Nat.{◌+◌, ◌-◌, ◌*◌, ◌/◌, ◌≤◌, ◌<◌}
-use native.Mathlib.Omega.{arith}
-use lib.ListN.{length, get_or}
-use borrow.Author.Tests.{leb-true, leb-false}
-use borrow.Author.Rules.{rules}
-use Rattle.chains.specs.Steps.{max_links}
+use Prim.Native.Nat.{◌-◌}
 use Rattle.relax.specs.Steps.{Graph, Ready}
-use Rattle.relax.proofs.Spreads.{Spreading, Turn, place, at-node, start_is, falls, node_in, mark-in, passed, again, space, grown-one, idle}
+use Rattle.relax.proofs.Spreads.{Spreading}
 use Rattle.relax.proofs.spread.Given as goal
 
 abbrev pub invariant-loop-i : goal.invariant-loop-i

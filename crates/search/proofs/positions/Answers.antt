@@ -21,13 +21,13 @@ pub bounds-order-j : goal.bounds-order-j
 bounds-order-j c = omega (arith, c.loop-k.invariant.upto)
 
 pub overflow_add-capacities : goal.overflow_add-capacities
-overflow_add-capacities c = omega (arith, inside c.loop-k.invariant (c.loop-k.k - 1) (omega arith) c.wide_two.result c.wide_two.ensures, c.loop-k.invariant.half, c.requires.half.1)
+overflow_add-capacities c = omega (arith, inside c.loop-k.invariant (c.loop-k.k - 1) (omega arith) _ refl, c.loop-k.invariant.half, c.requires.half.1)
 
 pub bounds-capacities-at : goal.bounds-capacities-at
-bounds-capacities-at c = (inside c.loop-k.invariant (c.loop-k.k - 1) (omega arith) c.wide_two.result c.wide_two.ensures).1
+bounds-capacities-at c = (inside c.loop-k.invariant (c.loop-k.k - 1) (omega arith) _ refl).1
 
 pub loop-k-preserved : goal.loop-k-preserved
-loop-k-preserved c = place-again c.loop-k.invariant (c.loop-k.k - 1) (omega arith) c.wide_two.result c.wide_two.ensures
+loop-k-preserved c = place-again c.loop-k.invariant (c.loop-k.k - 1) (omega arith) _ refl
 
 pub shape_of-capacities : goal.shape_of-capacities
 shape_of-capacities c = c.loop-k.invariant.size ∙ c.fill.ensures.long

@@ -1,9 +1,7 @@
 -- `sweep::collect` leaves the buffer, or puts the pair.
-use mathlib.Core.Path.{refl, sym, ◌∙◌}
-use Prim.Native.Nat.{◌≤◌, ◌<◌}
-use native.Mathlib.Omega.{arith}
-use borrow.Author.Rules.{rules}
-use borrow.Author.Tests.{leb-true, leb-false}
+use mathlib.Core.Path.{sym, ◌∙◌}
+use Prim.Native.Nat.{◌<◌}
+use borrow.Author.Tests.{leb-false}
 use Rattle.sweep.proofs.collect.Goals as goal
 
 pub put-requires : goal.put-requires

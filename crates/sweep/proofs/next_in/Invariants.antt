@@ -1,12 +1,6 @@
 -- `sweep::next_in` goes down from z: no node of a later place has a label above `last`.
-use mathlib.Core.Logic.{⊎_elim}
-use mathlib.Core.Path.{subst, ◌≡◌, sym, ap, ◌∙◌}
-use Prim.Native.Nat.{ℕ, ◌-◌, ◌≤◌, ◌<◌}
-use native.Mathlib.Omega.{arith}
+use Prim.Native.Nat.{ℕ, ◌≤◌, ◌<◌}
 use lib.ListN.{get_or}
-use borrow.Author.Rules.{rules}
-use borrow.Author.Tests.{ltb-true, ltb-false}
-use Rattle.laws.specs.Tests.{order as sides}
 use Rattle.sweep.proofs.next_in.Given as goal
 
 abbrev pub invariant-loop-r : goal.invariant-loop-r

@@ -4,8 +4,6 @@ use mathlib.Core.List.{◌∷◌}
 use Prim.Native.Nat.{◌+◌, ◌-◌, ◌/◌}
 use native.Mathlib.Omega.{arith}
 use lib.ListN.{length, get_or, replicate, length-set}
-use borrow.Author.Rules.{rules}
-use Rattle.limits.specs.Limits.{max_position}
 use Rattle.record.specs.Record.{longest}
 use Rattle.relax.specs.Steps.{Graph, Settled}
 use Rattle.sweep.specs.Steps.{Sweepable}
@@ -13,35 +11,35 @@ use Rattle.sweep.proofs.Turns.{Sweeping, begins-at, floodable, puttable, collect
 use Rattle.sweep.proofs.sweep.Goals as goal
 
 pub bounds-capacities-capacities : goal.bounds-capacities-capacities
-bounds-capacities-capacities c = let s = c.requires.network.1 in omega (arith, s.laid.t-in, s.lent.long, s.enters, c.wide_two-t.ensures)
+bounds-capacities-capacities c = let s = c.requires.network.1 in omega (arith, s.laid.t-in, s.lent.long, s.enters)
 
 pub bounds-label-t : goal.bounds-label-t
-bounds-label-t c = let s = c.requires.network.1 in omega (arith, s.laid.t-in, s.lent.long, c.requires.blank.long, s.enters, c.wide_two-t.ensures)
+bounds-label-t c = let s = c.requires.network.1 in omega (arith, s.laid.t-in, s.lent.long, c.requires.blank.long, s.enters)
 
 pub loop-begin-init : goal.loop-begin-init
 loop-begin-init c = let b = c.args.begin in
     let caps = c.args.capacities.now in
-    let t = c.wide_two-t.result in (
+    let t = c.args.begin.node in (
       λ f p.
           begins-at p.laid p.lent p.by_order p.within (c.empty-found.ensures ∙ ap₂ (λ a b. a ∷ b ∷ replicate (longest - 2) 0) p.sizes.0 p.sizes.1) c.requires.blank
-          b.x.0 p.begins p.some b.node t (get_or caps (length caps / 2 + t) 0) p.enters c.wide_two-t.ensures refl,
+          b.x.0 p.begins p.some b.node t (get_or caps (length caps / 2 + t) 0) p.enters refl refl,
       refl,
       refl,
       refl,
     )
 
-pub bounds-label-wide_two : goal.bounds-label-wide_two
-bounds-label-wide_two c =
+pub bounds-label-node : goal.bounds-label-node
+bounds-label-node c =
     let one : let a = c.args in
     let l = c.loop-begin in Sweeping c.requires.network.0 a.capacities.now a.links.now a.order.now l.label l.stack l.wait l.found l.x.0 l.node l.last.0 = c.loop-begin.invariant.0 c.requires.network.0 c.requires.network.1 in
-    let w = (one).work in omega (arith, (w.pile 0 (omega arith)).node, w.long, c.wide_two.ensures)
+    let w = (one).work in omega (arith, (w.pile 0 (omega arith)).node, w.long)
 
 pub flood-requires : goal.flood-requires
 flood-requires c =
     let one : let a = c.args in
     let l = c.loop-begin in Sweeping c.requires.network.0 a.capacities.now a.links.now a.order.now l.label l.stack l.wait l.found l.x.0 l.node l.last.0 = c.loop-begin.invariant.0 c.requires.network.0 c.requires.network.1 in
     let l = c.loop-begin in
-    rw (c.step_to-at.ensures, c.wide_two.ensures) (c.requires.network.0, floodable c.args.begin l.x.0 l.node l.last.0 (one) c.requires.network.1.source)
+    rw c.step_to-at.ensures (c.requires.network.0, floodable c.args.begin l.x.0 l.node l.last.0 (one) c.requires.network.1.source)
 
 pub bounds-label-s : goal.bounds-label-s
 bounds-label-s c =
@@ -57,7 +55,7 @@ collect-requires c =
     let settled : (f : Graph)
     → let a = c.args in
     Sweepable f a.capacities.now a.links.now a.order.now a.n2 a.begin → Settled f (c.loop-begin.x.0 - 1) c.flood.new.label c.flood.new.wait = λ f s. (let l = c.loop-begin in
-    (rw (c.step_to-at.ensures, c.wide_two.ensures) at c.flood.ensures.settled) f (floodable c.args.begin l.x.0 l.node l.last.0 (l.invariant.0 f s) s.source)) in
+    (rw c.step_to-at.ensures at c.flood.ensures.settled) f (floodable c.args.begin l.x.0 l.node l.last.0 (l.invariant.0 f s) s.source)) in
     let one : let a = c.args in
     let l = c.loop-begin in Sweeping c.requires.network.0 a.capacities.now a.links.now a.order.now l.label l.stack l.wait l.found l.x.0 l.node l.last.0 = c.loop-begin.invariant.0 c.requires.network.0 c.requires.network.1 in
     let f = c.requires.network.0 in
@@ -80,7 +78,7 @@ next_in-x-requires c =
 
 pub shape_of-label-then-place-eq0 : goal.shape_of-label-then-place-eq0
 shape_of-label-then-place-eq0 c = let caps = c.args.capacities.now in
-    let t = c.wide_two-t.result in
+    let t = c.args.begin.node in
     c.flood.ensures.long.labels ∙ c.loop-begin.invariant.1 ∙ length-set c.args.label.now t (get_or caps (length caps / 2 + t) 0)
 
 pub shape_of-stack-then-place-eq0 : goal.shape_of-stack-then-place-eq0
@@ -94,7 +92,7 @@ returns-then-place-eq0 c =
     let settled : (f : Graph)
     → let a = c.args in
     Sweepable f a.capacities.now a.links.now a.order.now a.n2 a.begin → Settled f (c.loop-begin.x.0 - 1) c.flood.new.label c.flood.new.wait = λ f s. (let l = c.loop-begin in
-    (rw (c.step_to-at.ensures, c.wide_two.ensures) at c.flood.ensures.settled) f (floodable c.args.begin l.x.0 l.node l.last.0 (l.invariant.0 f s) s.source)) in
+    (rw c.step_to-at.ensures at c.flood.ensures.settled) f (floodable c.args.begin l.x.0 l.node l.last.0 (l.invariant.0 f s) s.source)) in
     λ f p.
     let l = c.loop-begin.invariant.0 f p in
     let st = settled f p in
@@ -102,13 +100,13 @@ returns-then-place-eq0 c =
     ended l st _ is (collected l st _ is c.collect.ensures.long c.collect.ensures.same c.collect.ensures.more) c.next_in-x.ensures (omega arith)
 
 pub overflow_sub-node : goal.overflow_sub-node
-overflow_sub-node c = omega (arith, c.wide-place.ensures)
+overflow_sub-node c = omega (arith)
 
 pub bounds-order-place : goal.bounds-order-place
 bounds-order-place c =
     let one : let a = c.args in
     let l = c.loop-begin in Sweeping c.requires.network.0 a.capacities.now a.links.now a.order.now l.label l.stack l.wait l.found l.x.0 l.node l.last.0 = c.loop-begin.invariant.0 c.requires.network.0 c.requires.network.1 in
-    let l = one in omega (arith, l.by_order.long, l.begun, c.next_in-x.ensures.most, c.wide-place.ensures)
+    let l = one in omega (arith, l.by_order.long, l.begun, c.next_in-x.ensures.most)
 
 pub loop-begin-smaller : goal.loop-begin-smaller
 loop-begin-smaller c =
@@ -124,13 +122,13 @@ loop-begin-preserved c =
     let settled : (f : Graph)
     → let a = c.args in
     Sweepable f a.capacities.now a.links.now a.order.now a.n2 a.begin → Settled f (c.loop-begin.x.0 - 1) c.flood.new.label c.flood.new.wait = λ f s. (let l = c.loop-begin in
-    (rw (c.step_to-at.ensures, c.wide_two.ensures) at c.flood.ensures.settled) f (floodable c.args.begin l.x.0 l.node l.last.0 (l.invariant.0 f s) s.source)) in
+    (rw c.step_to-at.ensures at c.flood.ensures.settled) f (floodable c.args.begin l.x.0 l.node l.last.0 (l.invariant.0 f s) s.source)) in
     let i = c.loop-begin.invariant in
     let k = c.flood.ensures.long in (
       λ f p.
           let st = settled f p in
           let is = label_is f p in
-          rw c.wide-place.ensures.0 (onward (i.0 f p) st _ is (collected (i.0 f p) st _ is c.collect.ensures.long c.collect.ensures.same c.collect.ensures.more) c.next_in-x.ensures (omega arith) k),
+          (onward (i.0 f p) st _ is (collected (i.0 f p) st _ is c.collect.ensures.long c.collect.ensures.same c.collect.ensures.more) c.next_in-x.ensures (omega arith) k),
       omega (arith, i.1, k.labels),
       omega (arith, i.2, k.pile),
       omega (arith, i.3, k.levels),

@@ -1,15 +1,11 @@
 -- `sweep::sweep` goes down from x to x: what is collected, and what lies below x, hold where the network does.
-use mathlib.Core.Path.{◌≡◌, refl, ap, ap₂, ◌∙◌}
-use mathlib.Core.List.{◌∷◌}
-use Prim.Native.Nat.{◌+◌, ◌-◌, ◌/◌}
-use native.Mathlib.Omega.{arith}
-use lib.ListN.{length, get_or, replicate, length-set}
-use borrow.Author.Rules.{rules}
+use mathlib.Core.Path.{◌≡◌}
+use Prim.Native.Nat.{◌+◌}
+use lib.ListN.{length}
 use Rattle.limits.specs.Limits.{max_position}
-use Rattle.record.specs.Record.{longest}
-use Rattle.relax.specs.Steps.{Graph, Settled}
+use Rattle.relax.specs.Steps.{Graph}
 use Rattle.sweep.specs.Steps.{Sweepable}
-use Rattle.sweep.proofs.Turns.{Sweeping, begins-at, floodable, puttable, collected, ended, onward}
+use Rattle.sweep.proofs.Turns.{Sweeping}
 use Rattle.sweep.proofs.sweep.Given as goal
 
 abbrev pub invariant-loop-begin : goal.invariant-loop-begin
