@@ -45,7 +45,7 @@ fn fold(p: u64, numbers: &mut Column, n: usize) -> Large
 
 // ---- 10^14 × E over D = 10^(6(n1 + n2))
 // The sum over l2 of a row of cells, each times 10^14.
-fn sum_row(p2: u64, cells: &[u8], n2: usize) -> Large
+fn sum_row(p2: u64, cells: &[u8; 65], n2: usize) -> Large
     requires { (p2 ≤ 1000000) × (n2 ≤ 64) }
 {
     let mut row = [ZERO; 65];
@@ -62,12 +62,12 @@ pub struct Between {
     pub ceiling: u64,
 }
 
-// Cells by l1 and l2, at 65 × l1 + l2. D is as many words as there are nodes.
-pub fn exact(cells: &[u8], n1: usize, n2: usize, p1: u64, p2: u64) -> Between
+// Cells by l1 and l2. D is as many words as there are nodes.
+pub fn exact(cells: &[[u8; 65]; 65], n1: usize, n2: usize, p1: u64, p2: u64) -> Between
     requires { (n1 ≤ 64) × (n2 ≤ 64) × (p1 ≤ 1000000) × (p2 ≤ 1000000) }
 {
     let mut column = [ZERO; 65];
-    for (number, row) in column.iter_mut().zip(cells.chunks(65)).take(n1 + 1) {
+    for (number, row) in column.iter_mut().zip(cells).take(n1 + 1) {
         *number = sum_row(p2, row, n2);
     }
     let sum = fold(p1, &mut column, n1);

@@ -216,14 +216,16 @@ pub struct Found {
 }
 
 // For l1 and l2 working members in how many of the rounds the network holds.
-pub fn held(rounds: &[Found], n1: usize, n2: usize) -> Cells<usize>
+pub fn held(rounds: &[Found], n1: usize, n2: usize) -> Cells<u8>
     requires { (n1 ≤ 64) × (n2 ≤ 64) }
 {
     let mut held = [[0; 65]; 65];
     for l1 in 0..=n1 {
         for l2 in 0..=n2 {
-            let holding = rounds.iter().filter(|round| round.cells[n1 - l1][n2 - l2]);
-            held[l1][l2] = holding.count();
+            let holds = rounds
+                .iter()
+                .map(|round| u8::from(round.cells[n1 - l1][n2 - l2]));
+            held[l1][l2] = holds.fold(0, u8::saturating_add);
         }
     }
     held
