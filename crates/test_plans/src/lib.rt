@@ -1,9 +1,9 @@
 // Plans: records of searched rounds joined to any depth by the library, tables by their cells.
 #![tactic(auto)]
 
-ghost use Rattle.std.specs.Prelude.{◌≤◌, ◌<◌};
+ghost use Rattle.std.specs.Prelude.{◌+◌, ◌≤◌};
 
-use test_removal::{Found, Record, differ};
+use test_removal::{Cells, Found, Record, differ};
 use test_support::pick;
 
 #[derive(Clone, Copy)]
@@ -27,9 +27,9 @@ fn join_records(join: Join, left: &[u8], right: &[u8]) -> Record {
     copied(out.get(..written.unwrap_or(0)).unwrap_or(&[]))
 }
 
-fn join_plans(join: Join, left: &Found, right: &Found) -> Found {
-    let mut cells = left.cells;
-    for (row, others) in cells.iter_mut().zip(&right.cells) {
+fn join_cells(join: Join, left: &Cells<bool>, right: &Cells<bool>) -> Cells<bool> {
+    let mut cells = *left;
+    for (row, others) in cells.iter_mut().zip(right) {
         for (cell, other) in row.iter_mut().zip(others) {
             match join {
                 Join::Series => *cell &= *other,
@@ -37,17 +37,15 @@ fn join_plans(join: Join, left: &Found, right: &Found) -> Found {
             }
         }
     }
-    Found {
-        record: join_records(join, &left.record, &right.record),
-        cells,
-    }
+    cells
 }
 
-// A plan of 2^depth searched rounds, the leaves at random among eight, the first of them leaf `at`.
-fn plan(seed: u64, depth: u64, at: u64, rounds: &[Found]) -> Found
-    requires { (depth ≤ 5) × (at < 64) }
+// A plan of searched rounds, as many leaves as a power of 2, at random among eight; the first of
+// them is leaf `at`.
+fn plan(seed: u64, leaves: u64, at: u64, rounds: &[Found]) -> Found
+    requires { at + leaves ≤ 64 }
 {
-    if depth == 0 {
+    if leaves < 2 {
         let Some(leaf) = rounds.get(pick(seed, 60000 + at, 8) as usize) else {
             return Found::default();
         };
@@ -56,21 +54,25 @@ fn plan(seed: u64, depth: u64, at: u64, rounds: &[Found]) -> Found
             cells: leaf.cells,
         };
     }
-    let half = 1 << (depth - 1);
-    let left = plan(seed, depth - 1, at, rounds);
-    let right = plan(seed, depth - 1, at + half, rounds);
-    // Its last leaf and how many plans of half its depth end there number the draw.
-    let last = at + 2 * half - 1;
-    let join = match pick(seed, 70000 + last * 64 + (last + 1) / half, 2) {
+    let half = leaves / 2;
+    let left = plan(seed, half, at, rounds);
+    let right = plan(seed, half, at + half, rounds);
+    // Its last leaf, and how many plans of half its leaves end there, number the draw.
+    let end = at + leaves;
+    let draw = 70000 + (end - 1) * 64 + end / half;
+    let join = match pick(seed, draw, 2) {
         0 => Join::Series,
         _ => Join::Parallel,
     };
-    join_plans(join, &left, &right)
+    Found {
+        record: join_records(join, &left.record, &right.record),
+        cells: join_cells(join, &left.cells, &right.cells),
+    }
 }
 
 // A plan of 2 to 32 of the rounds, and the cells in which it differs from removal testing.
 pub fn try_plan(seed: u64, rounds: &[Found]) -> u64 {
-    let depth = 1 + pick(seed, 5, 5) % 5;
-    let plan = plan(seed, depth, 0, rounds);
+    let leaves = (2u64 << pick(seed, 5, 5)).min(32);
+    let plan = plan(seed, leaves, 0, rounds);
     differ(&plan.record, &plan.cells)
 }

@@ -7,7 +7,7 @@ ghost use Rattle.std.specs.Prelude.{◌≤◌};
 use answer::Rate;
 use test_exact::Between;
 use test_removal::{Cells, Found, held};
-use test_support::pick;
+use test_support::{pick, times};
 
 // How many rates a tally is tried at, and how many ages there are.
 pub const RATES: u64 = 4;
@@ -25,6 +25,7 @@ fn old(i: usize) -> u32 {
 
 // What is due to a tally of rounds: the class sizes, how many rounds it has, and in how many of them
 // each cell holds.
+#[derive(Drop)]
 struct Due {
     n1: usize,
     n2: usize,
@@ -36,8 +37,10 @@ struct Due {
 impl Due {
     // The sum of all cells; past the class sizes they are 0.
     fn score(&self) -> u32 {
-        let cells = self.cells.as_flattened();
-        cells.iter().map(|cell| u32::from(*cell)).sum()
+        let cells = self.cells.as_flattened().iter();
+        cells
+            .map(|cell| u32::from(*cell))
+            .fold(0, u32::saturating_add)
     }
 
     // The word that the tally has at a place: n1, n2, M, the score, a cell, or what it held.
@@ -80,7 +83,9 @@ fn wrong_tally(due: &Due, rounds: &[Found], words: &mut [u32; WORDS]) -> u64 {
         refused = refused.saturating_add(u64::from(added.is_err()));
     }
     let score = tally::score(words).ok() != Some(due.score());
-    refused.saturating_add(u64::from(score) + due.differ(words))
+    refused
+        .saturating_add(u64::from(score))
+        .saturating_add(due.differ(words))
 }
 
 // ---- reliability
@@ -90,7 +95,7 @@ pub fn wrong_ages() -> u64
 {
     let mut wrong: u64 = 0;
     for y in 0..AGES {
-        let due = 1000000 - 1000 * y * y;
+        let due = 1000000u64.saturating_sub(1000 * times(y, y));
         let chance = weights::ageing(y).ok().map(u64::from);
         wrong += u64::from(chance != Some(due));
     }
