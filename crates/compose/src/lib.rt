@@ -17,6 +17,7 @@ pub fn series(left: &[u8], right: &[u8], out: &mut [u8]) -> Result<usize, Refusa
     ensures answer { written result ≡ series_answer left.now right.now (length out.old) }
     ensures slice { out.new ≡ series_out left.now right.now out.old }
 {
+    // No `?`: it would call std, whose code `AlwaysEnds` (kinds) cannot open.
     if let Err(r) = joinable(left, right) {
         return Err(r);
     }
@@ -28,6 +29,7 @@ pub fn parallel(left: &[u8], right: &[u8], out: &mut [u8]) -> Result<usize, Refu
     ensures answer { written result ≡ parallel_answer left.now right.now (length out.old) }
     ensures slice { out.new ≡ parallel_out left.now right.now out.old }
 {
+    // No `?`: it would call std, whose code `AlwaysEnds` (kinds) cannot open.
     if let Err(r) = joinable(left, right) {
         return Err(r);
     }
@@ -63,18 +65,16 @@ fn merge_series(left: &[u8], right: &[u8]) -> FrontRecord
     let mut joined = FrontRecord::empty(l.n1, l.n2);
     let mut i: u8 = 0;
     let mut j: u8 = 0;
-    while i < k {
-        if m <= j {
-            return joined;
-        }
+    // A while: the pairs say which record's place moves, so no range fits.
+    while i < k && j < m {
         let p = record::pair_at(left, i);
         let q = record::pair_at(right, j);
         joined.put(p.min(q));
         if q.p2.at_least(p.p2) {
             i += 1;
-            continue;
+        } else {
+            j += 1;
         }
-        j += 1;
     }
     joined
 }
@@ -87,18 +87,17 @@ fn merge_parallel(left: &[u8], right: &[u8]) -> FrontRecord
     let l = record::read_head(left);
     let pairs = l.k + record::read_head(right).k;
     let mut joined = FrontRecord::empty(l.n1, l.n2);
+    // the pairs that were taken of the left record
     let mut i: u8 = 0;
-    let mut j: u8 = 0;
-    while i + j < pairs {
+    for n in 0..pairs {
         let p = record::pair_at(left, i);
-        let q = record::pair_at(right, j);
+        let q = record::pair_at(right, n - i);
         if p.p1.at_least(q.p1) {
             joined.put(p);
             i += 1;
-            continue;
+        } else {
+            joined.put(q);
         }
-        joined.put(q);
-        j += 1;
     }
     joined
 }

@@ -2,12 +2,13 @@
 use mathlib.Core.Path.{◌≡◌, refl, sym, ap, ap₂, ◌∙◌}
 use mathlib.Core.Bool.{true, false, ◌||◌, cond}
 use mathlib.Core.List.{List, [], ◌∷◌, map}
-use Prim.Native.Nat.{ℕ, ◌+◌, ◌*◌, ◌%◌, ◌≤◌, ◌<◌}
+use Prim.Native.Nat.{ℕ, zero, suc, ◌+◌, ◌*◌, ◌%◌, ◌≤◌, ◌<◌}
+use native.Mathlib.Numerals.{add-one}
 use native.Mathlib.Omega.{arith}
 use borrow.Author.Tests.{lt-ltb, le-ltb, eqb-true}
 use lib.Dec.{eqb, ltb}
 use lib.ListN.{length, get_or, length-map}
-use Rattle.limits.specs.Limits.{arc_size, max_kind, max_class}
+use Rattle.limits.specs.Limits.{arc_size, arc_count, max_kind, max_class}
 use Rattle.laws.specs.Every.{every, every-at}
 use Rattle.laws.specs.Members.{any}
 use Rattle.laws.specs.Tests.{flag, flag-le}
@@ -17,7 +18,7 @@ use Rattle.orders.proofs.Scans.{count-append, count_most}
 use Rattle.orders.specs.Order.{count}
 use Rattle.parts.specs.Study.{Entry, entry_class, entries_from, elements}
 use Rattle.parts.specs.Tests.{bad_classes, bad_arcs, bad_kinds, bad_sizes, part_tests}
-use Rattle.parts.specs.Steps.{sizes_of, arc_tests, arc_test, kind_test, Looked}
+use Rattle.parts.specs.Steps.{sizes_of, arc_tests, arc_test, kind_test, bad_before, Looked}
 use Rattle.parts.proofs.Scans.{entries-length, entry_at, entries_at, entry_next, entry-end, class-next, class-end}
 
 -- 1 for each kind of a class, as the code has it
@@ -35,6 +36,14 @@ of-class1 = kinds-of class1 1 refl
 
 pub of-class2 : (k : ℕ) → k ≤ max_kind → get_or class2 k 0 ≡ flag (eqb (k % 3) 2)
 of-class2 = kinds-of class2 2 refl
+
+-- the scan for a bad one, of entries of three bytes
+bad_to : (n : ℕ) (l : List ℕ) (i : ℕ) → i ≤ arc_count l → bad_arcs n (entries_from l) ≡ (bad_before n arc_size l i || any (arc_test n) (entries_at l i))
+bad_to n l zero h = refl
+bad_to n l (suc i) h = bad_to n l i (omega arith) ∙ entry_next (arc_test n) (bad_before n arc_size l i) l i (omega arith) ∙ rw (add-one i)
+
+pub bad_all : (n : ℕ) (l : List ℕ) → bad_arcs n (entries_from l) ≡ bad_before n arc_size l (arc_count l)
+bad_all n l = bad_to n l (arc_count l) (omega arith) ∙ entry-end (arc_test n) (bad_before n arc_size l (arc_count l)) l (arc_count l) (omega arith)
 
 module _ (n : ℕ) (l : List ℕ) where
   pub looked-first : Looked n l 0 0 0

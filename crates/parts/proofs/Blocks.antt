@@ -31,10 +31,10 @@ fields_at (suc m) (suc k) h =
 abbrev bad_byte : ℕ → ℕ → ℕ → ℕ → Bool
 bad_byte n field x y = leb (field_limit n field) x || (eqb field from_field && eqb x y)
 
-abbrev is_class1 : ℕ → ℕ → Bool
+abbrev pub is_class1 : ℕ → ℕ → Bool
 is_class1 field x = eqb field kind_field && (eqb x 1 || eqb x 4)
 
-abbrev is_class2 : ℕ → ℕ → Bool
+abbrev pub is_class2 : ℕ → ℕ → Bool
 is_class2 field x = eqb field kind_field && (eqb x 2 || eqb x 5)
 
 -- of byte k of the block from place at on
@@ -51,11 +51,10 @@ class2_at fields l at k = flag (is_class2 (get_or fields k 0) (get_or l (at + k)
 abbrev pub NoneBad : ℕ → List ℕ → List ℕ → ℕ → ℕ → Type 0
 NoneBad n fields l at j = (k : ℕ) → k < j → bad_at n fields l at k ≡ false
 
-pub none-next : (n : ℕ) (fields l : List ℕ) (at j : ℕ) (bad a b : Bool) → (bad ≡ false → NoneBad n fields l at j) → (a || b) ≡ bad_at n fields l at j → ((bad || a) || b) ≡ false → NoneBad n fields l at (j + 1)
-none-next n fields l at j bad a b before e f k h =
-    let g = or-none (bad || a) b f in
-    let g2 = or-none bad a g.0 in
-    ⊎_elim (λ (q : k ≡ j). ap (bad_at n fields l at) q ∙ sym e ∙ rw (g2.1, g.1)) (λ q. before g2.0 k (omega arith)) (equal k j)
+pub none-next : (n : ℕ) (fields l : List ℕ) (at j : ℕ) (bad now : Bool) → (bad ≡ false → NoneBad n fields l at j) → now ≡ bad_at n fields l at j → (bad || now) ≡ false → NoneBad n fields l at (j + 1)
+none-next n fields l at j bad now before e f k h =
+    let g = or-none bad now f in
+    ⊎_elim (λ (q : k ≡ j). ap (bad_at n fields l at) q ∙ sym e ∙ g.1) (λ q. before g.0 k (omega arith)) (equal k j)
 
 -- kinds of a class
 kind1 : (k : ℕ) → k ≤ max_kind → flag (is_class1 kind_field k) ≡ flag (eqb (k % 3) 1)

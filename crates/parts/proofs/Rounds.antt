@@ -1,5 +1,5 @@
 -- The scan over all rounds.
-use mathlib.Core.Path.{◌≡◌, refl, ap, ap₂, ◌∙◌}
+use mathlib.Core.Path.{◌≡◌, refl, sym, ap, ap₂, ◌∙◌}
 use mathlib.Core.Bool.{Bool, true, ◌&&◌}
 use mathlib.Core.List.{List, [], ◌∷◌}
 use Prim.Native.Nat.{ℕ, suc, ◌+◌, ◌-◌, ◌*◌, ◌<◌}
@@ -32,6 +32,11 @@ module _ (good : List ℕ → Bool) (m n : ℕ) (b : List ℕ) where
       let k : r * n + n ≡ (r + 1) * n = omega arith in
       ap (λ i. all good (pieces i n (drop (r * n) b))) e
       ∙ ap (λ l. good (part_at (r * n) n b) && all good (pieces (m - (r + 1)) n l)) (drop-drop n (r * n) b ∙ ap (λ i. drop i b) k)
+
+  -- round r is tested
+  pub good-turn : (r : ℕ) (one : List ℕ) (result : Bool) → all good (pieces m n b) ≡ good_from r → r < m → one ≡ part_at (r * n) n b → result ≡ good one
+      → all good (pieces m n b) ≡ (result && good_from (r + 1))
+  good-turn r one result so h e f = so ∙ good-next r h ∙ ap (λ x. x && good_from (r + 1)) (sym (f ∙ ap good e))
 
   pub good-end : good_from m ≡ true
   good-end = let e : m - m ≡ 0 = omega arith in ap (λ i. all good (pieces i n (drop (m * n) b))) e

@@ -1,5 +1,5 @@
 -- STEPS: what proofs and the contracts between our crates speak of. Nobody has to believe these: no promise to a caller cites them.
-use Rattle.std.specs.Prelude.{◌≡◌, Bool, cond, List, [], ◌∷◌, map, ℕ, zero, suc, Result, ◌+◌, ◌*◌, ◌≤◌, eqb, ltb, drop}
+use Rattle.std.specs.Prelude.{◌≡◌, Bool, false, ◌||◌, cond, List, [], ◌∷◌, map, ℕ, zero, suc, Result, ◌+◌, ◌*◌, ◌≤◌, eqb, ltb, get_or, drop}
 use Rattle.limits.specs.Limits.{arc_size, max_kind}
 use Rattle.laws.specs.Members.{any}
 use Rattle.answer.specs.declared.Refusal.{Refusal}
@@ -20,6 +20,11 @@ arc_tests N entries = (8, bad_arcs N entries) ∷ (32, bad_kinds entries) ∷ []
 -- what the tests of nodes and arcs find
 abbrev pub counted : Result Sizes Refusal → Outcome
 counted = told (λ s. s.n1 ∷ s.n2 ∷ [])
+
+-- whether one of the first i entries of so many bytes is bad, each beginning with from and to, for n nodes
+abbrev pub bad_before : ℕ → ℕ → List ℕ → ℕ → Bool
+bad_before n size l zero = false
+bad_before n size l (suc i) = bad_before n size l i || bad_arc n (get_or l (size * i) 0) (get_or l (size * i + 1) 0)
 
 -- ---- the pass over the arc entries
 -- those from place i on

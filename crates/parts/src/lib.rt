@@ -2,15 +2,15 @@
 // 11 over all rounds.
 #![tactic(auto)]
 
-ghost use Rattle.std.specs.Prelude.{◌≡◌, false, not, ◌&&◌, map, ◌+◌, ◌*◌, ◌≤◌, ◌<◌, length, take, drop};
+ghost use Rattle.std.specs.Prelude.{◌≡◌, not, ◌&&◌, map, ◌+◌, ◌*◌, ◌/◌, ◌≤◌, ◌<◌, length, take, drop};
+ghost use Rattle.std.specs.Option.{IfSome};
 ghost use Rattle.limits.specs.Limits.{max_nodes, arc_size, arc_count, max_class, max_round_size, max_rounds};
 ghost use Rattle.laws.specs.Members.{all};
-ghost use Rattle.laws.specs.Tests.{flag};
 ghost use Rattle.answer.specs.Outcome.{outcome};
 ghost use Rattle.orders.specs.Order.{count, is_order, is_order_of};
 ghost use Rattle.parts.specs.Study.{entry_class, entries_from, elements, pieces};
-ghost use Rattle.parts.specs.Tests.{bad_counts, bad_ends, bad_classes, bad_arc, bad_arcs, part_tests};
-ghost use Rattle.parts.specs.Steps.{sizes_of, arc_tests, counted, Looked, field_limit, block_size, block_bytes, block_fields, GoodBlock};
+ghost use Rattle.parts.specs.Tests.{bad_counts, bad_ends, bad_classes, bad_arc, part_tests};
+ghost use Rattle.parts.specs.Steps.{sizes_of, arc_tests, counted, bad_before, Looked, field_limit, block_size, block_bytes, block_fields, GoodBlock};
 
 use answer::Refusal;
 use limits::{ARC, MAX_ARCS, MAX_CLASS, MAX_KIND, MAX_NODES, MAX_ROUNDS, MIN_NODES};
@@ -43,10 +43,8 @@ fn bad_classes(nodes: &[u8]) -> bool
     ensures { result ≡ bad_classes nodes.now }
 {
     let mut bad = false;
-    let mut v = 0;
-    while v < nodes.len() {
-        bad = bad | (2 < nodes[v]);
-        v += 1;
+    for &class in nodes {
+        bad |= 2 < class;
     }
     bad
 }
@@ -58,24 +56,16 @@ fn bad_arc(n: u8, from: u8, to: u8) -> bool
     (n <= from) | (n <= to) | (from == to)
 }
 
-// Number 8 of all.
-fn bad_arcs(n: u8, arcs: &[u8]) -> bool
-    ensures { result ≡ bad_arcs n (entries_from arcs.now) }
+// Number 8 of all, of entries of ENTRY bytes, which begin with from and to.
+pub fn bad_arcs<const ENTRY: usize>(n: u8, arcs: &[u8]) -> bool
+    requires { 2 ≤ ENTRY }
+    ensures { result ≡ bad_before n ENTRY arcs.now (length arcs.now / ENTRY) }
 {
     let mut bad = false;
-    let mut i = 0;
-    while i < arcs.len() / ARC {
-        bad = bad | bad_arc(n, arcs[ARC * i], arcs[ARC * i + 1]);
-        i += 1;
+    for i in 0..arcs.len() / ENTRY {
+        bad |= bad_arc(n, arcs[ENTRY * i], arcs[ENTRY * i + 1]);
     }
     bad
-}
-
-// 1 where the test is passed, else 0.
-fn one(test: bool) -> u8
-    ensures { (result ≡ flag test) × (result ≤ 1) }
-{
-    if test { 1 } else { 0 }
 }
 
 // Which byte of its entry a byte is, by the first letters of from, to and kind.
@@ -95,97 +85,81 @@ const BLOCK: usize = 16;
 
 const BLOCK_BYTES: usize = ARC * BLOCK;
 
-// A block of entries: whether one is bad, and, if none is, how many are of classes 1 and 2.
+// How many entries of a block are of classes 1 and 2.
 #[derive(Clone, Copy)]
 struct Block {
-    bad: bool,
     n1: u8,
     n2: u8,
 }
 
-// The block from entry i on, byte by byte, so that the scan runs over many at a time; `fields` says
-// which byte of its entry each is. Each is compared with the next one: a byte has to follow the block.
-fn look(n: u8, fields: &[u8], arcs: &[u8], i: usize) -> Block
+// The block from entry i on, unless one of its entries is bad: byte by byte, so that the scan runs
+// over many at a time; `fields` says which byte of its entry each is. Each is compared with the next
+// one: a byte has to follow the block.
+fn look(n: u8, fields: &[u8; BLOCK_BYTES], arcs: &[u8], i: usize) -> Option<Block>
     requires fields { fields.now ≡ block_fields }
     requires room { arc_size * (i + block_size) < length arcs.now }
-    ensures few { (result.n1 ≤ block_bytes) × (result.n2 ≤ block_bytes) }
-    ensures good { result.bad ≡ false → GoodBlock n arcs.now i result.n1 result.n2 }
+    ensures { IfSome result (λ b. (b.n1 ≤ block_bytes) × (b.n2 ≤ block_bytes) × GoodBlock n arcs.now i b.n1 b.n2) }
 {
     let at = ARC * i;
     let mut bad = false;
     let mut n1: u8 = 0;
     let mut n2: u8 = 0;
-    let mut j = 0;
-    while j < BLOCK_BYTES {
-        let field = fields[j];
+    for (j, &field) in fields.iter().enumerate() {
         let x = arcs[at + j];
-        bad = bad | (limit(n, field) <= x) | ((field == FROM) & (x == arcs[at + j + 1]));
-        n1 += one((field == KIND) & ((x == 1) | (x == 4)));
-        n2 += one((field == KIND) & ((x == 2) | (x == 5)));
-        j += 1;
+        bad |= (limit(n, field) <= x) | ((field == FROM) & (x == arcs[at + j + 1]));
+        n1 += ((field == KIND) & ((x == 1) | (x == 4))) as u8;
+        n2 += ((field == KIND) & ((x == 2) | (x == 5))) as u8;
     }
-    Block {
-        bad: bad,
-        n1: n1,
-        n2: n2,
-    }
+    if bad { None } else { Some(Block { n1, n2 }) }
 }
 
-// The entries before place i are good, and n1 and n2 of them are of classes 1 and 2.
+// The entries before place i are good, and so many of them are of classes 1 and 2.
 #[derive(Clone, Copy)]
 struct Begun {
     i: usize,
-    n1: usize,
-    n2: usize,
+    sizes: Sizes,
 }
 
 // The blocks before the first that has a bad entry; the last entries are in none.
 fn good_blocks(n: u8, arcs: &[u8]) -> Begun
-    ensures { (result.i ≤ arc_count arcs.now) × Looked n arcs.now result.i result.n1 result.n2 }
+    ensures { (result.i ≤ arc_count arcs.now) × Looked n arcs.now result.i result.sizes.n1 result.sizes.n2 }
 {
     let fields = b"ftkftkftkftkftkftkftkftkftkftkftkftkftkftkftkftk";
     let mut n1: usize = 0;
     let mut n2: usize = 0;
     let mut i = 0;
+    // A while: where it stops is handed out.
     while ARC * (i + BLOCK) < arcs.len() {
-        let found = look(n, fields, arcs, i);
-        if found.bad {
-            return Begun {
-                i: i,
-                n1: n1,
-                n2: n2,
-            };
-        }
-        n1 += found.n1 as usize;
-        n2 += found.n2 as usize;
+        let Some(block) = look(n, fields, arcs, i) else {
+            break;
+        };
+        n1 += block.n1 as usize;
+        n2 += block.n2 as usize;
         i += BLOCK;
     }
     Begun {
-        i: i,
-        n1: n1,
-        n2: n2,
+        i,
+        sizes: Sizes { n1, n2 },
     }
 }
 
 // Numbers 8 and 32, or how many arcs are of classes 1 and 2: one pass over the entries that are
 // left, which ends at a bad one. At a bad kind all arcs are looked at again, since 8 comes before 32.
 fn count_rest(n: u8, arcs: &[u8], begun: Begun) -> Result<Sizes, Refusal>
-    requires { (begun.i ≤ arc_count arcs.now) × Looked n arcs.now begun.i begun.n1 begun.n2 }
+    requires { (begun.i ≤ arc_count arcs.now) × Looked n arcs.now begun.i begun.sizes.n1 begun.sizes.n2 }
     ensures { counted result ≡ outcome (arc_tests n (entries_from arcs.now)) (sizes_of (map entry_class (entries_from arcs.now))) }
 {
     // 1 for each kind of the class. Locals: a const array would be copied in every turn.
     let class1 = [0u8, 1, 0, 0, 1, 0];
     let class2 = [0u8, 0, 1, 0, 0, 1];
-    let mut n1 = begun.n1;
-    let mut n2 = begun.n2;
-    let mut i = begun.i;
-    while i < arcs.len() / ARC {
+    let Sizes { mut n1, mut n2 } = begun.sizes;
+    for i in begun.i..arcs.len() / ARC {
         let kind = arcs[ARC * i + 2];
         if bad_arc(n, arcs[ARC * i], arcs[ARC * i + 1]) {
             return Err(Refusal::Arc);
         }
         if MAX_KIND < kind {
-            if bad_arcs(n, arcs) {
+            if bad_arcs::<ARC>(n, arcs) {
                 return Err(Refusal::Arc);
             }
             return Err(Refusal::Kind);
@@ -193,9 +167,8 @@ fn count_rest(n: u8, arcs: &[u8], begun: Begun) -> Result<Sizes, Refusal>
         let k = kind as usize;
         n1 += class1[k] as usize;
         n2 += class2[k] as usize;
-        i += 1;
     }
-    Ok(Sizes { n1: n1, n2: n2 })
+    Ok(Sizes { n1, n2 })
 }
 
 // Numbers 8 and 32, or how many arcs are of classes 1 and 2.
@@ -222,7 +195,7 @@ pub fn test_parts(nodes: &[u8], arcs: &[u8]) -> Result<Sizes, Refusal>
             if (MAX_CLASS < n1) | (MAX_CLASS < n2) {
                 return Err(Refusal::ClassSize);
             }
-            Ok(Sizes { n1: n1, n2: n2 })
+            Ok(Sizes { n1, n2 })
         }
     }
 }
@@ -242,12 +215,10 @@ pub fn bad_orders(
         (pieces rounds (n1 + n2) bytes.now)) }
 {
     let n = n1 + n2;
-    let mut r = 0;
-    while r < rounds {
+    for r in 0..rounds {
         if !are_orders(classes1, classes2, n1, n2, part(bytes, r * n, n)) {
             return true;
         }
-        r += 1;
     }
     false
 }
@@ -259,5 +230,5 @@ pub fn bad_rounds(bytes: &[u8], n1: usize, n2: usize, rounds: usize) -> bool
 {
     let ones = [1u8; MAX_CLASS];
     let twos = [2u8; MAX_CLASS];
-    bad_orders(&ones[0..n1], &twos[0..n2], bytes, n1, n2, rounds)
+    bad_orders(&ones[..n1], &twos[..n2], bytes, n1, n2, rounds)
 }

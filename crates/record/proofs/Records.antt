@@ -1,16 +1,15 @@
 -- The test of number 12 says that the bytes list a front in record form.
 use mathlib.Core.Path.{◌≡◌, sym, ap, ◌∙◌, subst}
 use mathlib.Core.Logic.{◌↔◌, ⊎_elim}
-use mathlib.Core.Bool.{false, ◌&&◌}
+use mathlib.Core.Bool.{◌&&◌}
 use mathlib.Core.List.Memᴰ
 use mathlib.Core.List.{List, [], ◌∷◌}
 use Prim.Native.Nat.{ℕ, ◌+◌, ◌*◌, ◌≤◌, min}
 use native.Mathlib.Omega.{arith}
-use borrow.Author.Tests.{le-leb, eq-eqb}
 use lib.Dec.{T, leb, ltb, eqb, leb→le, le→leb, ltb→lt, lt→ltb, eqb→eq, eqb_refl}
 use lib.ListN.{length}
 use Rattle.limits.specs.Limits.{max_class}
-use Rattle.laws.specs.Tests.{T-ext, T_and}
+use Rattle.laws.specs.Tests.{T_and}
 use Rattle.laws.specs.Members.{here, all, all_are}
 use Rattle.laws.specs.Pairwise.{Pairwise}
 use Rattle.front.specs.declared.Pair.{Pair}
@@ -109,14 +108,6 @@ record_is b =
 -- k is at most the smaller class size, plus one
 pub record-few : (b : List ℕ) → IsRecord b → pair_count b ≤ min (record_size1 b) (record_size2 b) + 1
 record-few b r = omega (arith, form-short (record_size1 b) (record_size2 b) (listed b) r.form, listed-length b r.long)
-
--- once sizes, length and count are tested, the pairs decide
-pub pairs_decide : (b : List ℕ) → record_size1 b ≤ max_class → record_size2 b ≤ max_class → length b ≡ 3 + 2 * pair_count b → pair_count b ≤ min (record_size1 b) (record_size2 b) + 1
-    → (all (in_range (record_size1 b) (record_size2 b)) (listed b) && falling (listed b)) ≡ is_record b
-pairs_decide b h k e f = rw (le-leb (record_size1 b) max_class h, le-leb (record_size2 b) max_class k, eq-eqb (length b) (3 + 2 * pair_count b) e, le-leb (pair_count b) (min (record_size1 b) (record_size2 b) + 1) f)
-
-pub not-record : (b : List ℕ) → (IsRecord b → ⊥) → false ≡ is_record b
-not-record b n = T-ext false (is_record b) (λ t. absurd t, λ t. n ((record_is b).0 t))
 
 -- the record of a list in record form is one
 pub form-is-record : (n1 n2 : ℕ) (l : List Pair) → n1 ≤ max_class → n2 ≤ max_class → RecordForm n1 n2 l → IsRecord (record_bytes n1 n2 l)

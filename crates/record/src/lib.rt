@@ -45,19 +45,19 @@ pub fn pair_at(bytes: &[u8], i: u8) -> Pair
 pub fn holds(bytes: &[u8], a: u8, b: u8) -> bool
     ensures { result ≡ record_holds bytes.now a b }
 {
-    let mut at = 3;
-    while at < bytes.len() {
-        if bytes.len() - at == 1 {
-            return false;
-        }
+    let [_, _, _, pairs @ ..] = bytes else {
+        return false;
+    };
+    let mut left = pairs;
+    while let [p1, p2, rest @ ..] = left {
         let p = Pair {
-            p1: Pos(bytes[at]),
-            p2: Pos(bytes[at + 1]),
+            p1: Pos(*p1),
+            p2: Pos(*p2),
         };
         if p.holds(a, b) {
             return true;
         }
-        at += 2;
+        left = rest;
     }
     false
 }

@@ -4,7 +4,7 @@ ghost use Rattle.limits.specs.Limits.{max_class};
 ghost use Rattle.laws.specs.Members.{all};
 ghost use Rattle.record.specs.Record.{pair_count, listed, in_range, follows, falling, is_record};
 
-use crate::{pair_at, read_head};
+use crate::{Head, pair_at, read_head};
 use front::{Pair, Pos};
 use limits::MAX_CLASS;
 
@@ -15,10 +15,7 @@ const MOST: u8 = MAX_CLASS as u8;
 pub fn is_record(bytes: &[u8]) -> bool
     ensures { result ≡ is_record bytes.now }
 {
-    let h = read_head(bytes);
-    let n1 = h.n1;
-    let n2 = h.n2;
-    let k = h.k;
+    let Head { n1, n2, k } = read_head(bytes);
     if MOST < n1 {
         return false;
     }
@@ -47,14 +44,12 @@ fn pairs_fit(bytes: &[u8], n1: u8, n2: u8) -> bool
         p1: Pos(n1 + 2),
         p2: Pos(0),
     };
-    let mut i: u8 = 0;
-    while i < k {
+    for i in 0..k {
         let p = pair_at(bytes, i);
         if !fits(n1, n2, last, p) {
             return false;
         }
         last = p;
-        i += 1;
     }
     true
 }

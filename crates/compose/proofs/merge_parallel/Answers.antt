@@ -1,18 +1,14 @@
 -- `compose::merge_parallel`: the record has collected all pairs but those that are left (`Merging either max`).
-use mathlib.Core.Path.{sym, ◌∙◌}
+use mathlib.Core.Path.{◌≡◌, sym, ◌∙◌}
+use Prim.Native.Nat.{◌+◌, ◌-◌}
 use native.Mathlib.Omega.{arith}
 use borrow.Author.Tests.{leb-true, leb-false}
 use Rattle.compose.proofs.Merges.{merging-none, left-puttable, right-puttable, parallel-left, parallel-right, parallel-done, pair_is, count-is}
 use Rattle.compose.proofs.merge_parallel.Goals as goal
+use Rattle.compose.proofs.merge_parallel.Goals.{then-at_least, else-at_least}
 
-pub overflow_add-pairs : goal.overflow_add-pairs
-overflow_add-pairs c =
-    let k = count-is c.args.left.now c.requires.left_is c.read_head-l.ensures.2 in
-    let m = count-is c.args.right.now c.requires.right_is c.read_head.ensures.2 in
-    omega arith
-
-pub loop-i-init : goal.loop-i-init
-loop-i-init c =
+pub loop-n-init : goal.loop-n-init
+loop-n-init c =
     let l = c.read_head-l.ensures in
     let k = count-is c.args.left.now c.requires.left_is l.2 in
     let m = count-is c.args.right.now c.requires.right_is c.read_head.ensures.2 in
@@ -20,27 +16,29 @@ loop-i-init c =
 
 pub put-requires : goal.put-requires
 put-requires c =
-    let l = c.loop-i in
-    left-puttable l.invariant.0 (omega arith) (pair_is c.args.left.now c.requires.left_is l.i c.pair_at-p.ensures) (pair_is c.args.right.now c.requires.right_is l.j c.pair_at-q.ensures) (leb-true _ _ (sym c.at_least.ensures ∙ c.if-at_least.true))
+    let l = c.loop-n in
+    left-puttable l.invariant.0 (omega arith) (pair_is c.args.left.now c.requires.left_is l.i c.pair_at-p.ensures) (pair_is c.args.right.now c.requires.right_is (l.n - l.i) c.pair_at-q.ensures) (leb-true _ _ (sym c.at_least.ensures ∙ c.if-at_least.true))
 
-pub loop-i-preserved-then-at_least : goal.loop-i-preserved-then-at_least
-loop-i-preserved-then-at_least c =
-    let l = c.loop-i in
+pub put-requires-else-at_least : goal.put-requires-else-at_least
+put-requires-else-at_least c =
+    let l = c.loop-n in
+    right-puttable l.invariant.0 (omega arith) (pair_is c.args.left.now c.requires.left_is l.i c.pair_at-p.ensures) (pair_is c.args.right.now c.requires.right_is (l.n - l.i) c.pair_at-q.ensures) (leb-false _ _ (sym c.at_least.ensures ∙ c.if-at_least.false))
+
+pub loop-n-preserved : goal.loop-n-preserved
+loop-n-preserved c =
+    let l = c.loop-n in
     let p-is = pair_is c.args.left.now c.requires.left_is l.i c.pair_at-p.ensures in
-    let q-is = pair_is c.args.right.now c.requires.right_is l.j c.pair_at-q.ensures in
-    (parallel-left l.invariant.0 (omega arith) p-is q-is (leb-true _ _ (sym c.at_least.ensures ∙ c.if-at_least.true)) c.put.ensures, l.invariant.1, l.invariant.2)
-
-pub put-requires-in-loop-i : goal.put-requires-in-loop-i
-put-requires-in-loop-i c =
-    let l = c.loop-i in
-    right-puttable l.invariant.0 (omega arith) (pair_is c.args.left.now c.requires.left_is l.i c.pair_at-p.ensures) (pair_is c.args.right.now c.requires.right_is l.j c.pair_at-q.ensures) (leb-false _ _ (sym c.at_least.ensures ∙ c.if-at_least.false))
-
-pub loop-i-preserved : goal.loop-i-preserved
-loop-i-preserved c =
-    let l = c.loop-i in
-    let p-is = pair_is c.args.left.now c.requires.left_is l.i c.pair_at-p.ensures in
-    let q-is = pair_is c.args.right.now c.requires.right_is l.j c.pair_at-q.ensures in
-    (parallel-right l.invariant.0 (omega arith) p-is q-is (leb-false _ _ (sym c.at_least.ensures ∙ c.if-at_least.false)) c.put-in-loop-i.ensures, l.invariant.1, l.invariant.2)
+    let q-is = pair_is c.args.right.now c.requires.right_is (l.n - l.i) c.pair_at-q.ensures in
+    elim c.if-at_least.branch [
+      | then-at_least w ↦
+          let e : l.n + 1 - (l.i + 1) ≡ l.n - l.i = omega arith in
+          rw (w.joined-is, w.i-is, e)
+          (parallel-left l.invariant.0 (omega arith) p-is q-is (leb-true _ _ (sym c.at_least.ensures ∙ w.if-at_least.true)) w.put.ensures, omega arith, l.invariant.2)
+      | else-at_least w ↦
+          let e : l.n + 1 - l.i ≡ l.n - l.i + 1 = omega arith in
+          rw (w.joined-is, w.i-is, e)
+          (parallel-right l.invariant.0 (omega arith) p-is q-is (leb-false _ _ (sym c.at_least.ensures ∙ w.if-at_least.false)) w.put-else-at_least.ensures, omega arith, l.invariant.2)
+    ]
 
 pub returns : goal.returns
-returns c = parallel-done c.loop-i.invariant.0 (omega arith)
+returns c = parallel-done c.loop-n.invariant.0 (omega arith)

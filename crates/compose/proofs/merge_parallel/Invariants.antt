@@ -6,8 +6,5 @@ use Rattle.record.specs.Record.{record_size1, record_size2, listed}
 use Rattle.compose.proofs.Merges.{either, Merging}
 use Rattle.compose.proofs.merge_parallel.Given as goal
 
-abbrev pub invariant-loop-i : goal.invariant-loop-i
-invariant-loop-i l = Merging either max (record_size1 l.left) (record_size2 l.left) (listed l.left) (listed l.right) l.i l.j l.joined × (l.pairs ≡ length (listed l.left) + length (listed l.right)) × (l.pairs ≤ 130)
-
-abbrev pub decreases-loop-i : goal.decreases-loop-i
-decreases-loop-i l = l.pairs - (l.i + l.j)
+abbrev pub invariant-loop-n : goal.invariant-loop-n
+invariant-loop-n l = Merging either max (record_size1 l.left) (record_size2 l.left) (listed l.left) (listed l.right) l.i (l.n - l.i) l.joined × (l.i ≤ l.n) × (l.pairs ≡ length (listed l.left) + length (listed l.right))

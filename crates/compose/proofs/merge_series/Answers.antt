@@ -14,8 +14,8 @@ loop-i-init c =
     let m = count-is c.args.right.now c.requires.right_is c.read_head-m.ensures.2 in
     (merging-none c.requires l.0 l.1 c.empty-joined.ensures, k.0, m.0, k.1, m.1)
 
-pub returns-then-m-j : goal.returns-then-m-j
-returns-then-m-j c = series-done c.loop-i.invariant.0 (inr (omega arith))
+pub returns-else-j-m : goal.returns-else-j-m
+returns-else-j-m c = series-done c.loop-i.invariant.0 (inr (omega arith))
 
 pub put-requires : goal.put-requires
 put-requires c =
@@ -36,5 +36,5 @@ loop-i-preserved c =
     let q-is = pair_is c.args.right.now c.requires.right_is l.j c.pair_at-q.ensures in
     (series-right l.invariant.0 (omega arith) (omega arith) p-is q-is c.min.ensures c.put.ensures (le_of_lt (leb-false _ _ (sym c.at_least.ensures ∙ c.if-at_least.false))), l.invariant.1, l.invariant.2, l.invariant.3, l.invariant.4)
 
-pub returns : goal.returns
-returns c = series-done c.loop-i.invariant.0 (inl (omega arith))
+pub returns-after-loop-i : goal.returns-after-loop-i
+returns-after-loop-i c = series-done c.loop-i.invariant.0 (inl (omega arith))

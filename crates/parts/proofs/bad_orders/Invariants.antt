@@ -2,7 +2,7 @@
 use mathlib.Core.Path.{◌≡◌}
 use mathlib.Core.Bool.{Bool, ◌&&◌}
 use mathlib.Core.List.{List}
-use Prim.Native.Nat.{ℕ, ◌-◌, ◌≤◌}
+use Prim.Native.Nat.{ℕ}
 use lib.ListN.{take, drop}
 use Rattle.laws.specs.Members.{all}
 use Rattle.orders.specs.Order.{is_order_of}
@@ -15,7 +15,4 @@ abbrev pub good : List ℕ → List ℕ → ℕ → List ℕ → Bool
 good classes1 classes2 n1 x = is_order_of 1 classes1 (take n1 x) && is_order_of 2 classes2 (drop n1 x)
 
 abbrev pub invariant-loop-r : goal.invariant-loop-r
-invariant-loop-r l = (l.r ≤ l.rounds) × (all (good l.classes1 l.classes2 l.n1) (pieces l.rounds l.n l.bytes) ≡ good_from (good l.classes1 l.classes2 l.n1) l.rounds l.n l.bytes l.r)
-
-abbrev pub decreases-loop-r : goal.decreases-loop-r
-decreases-loop-r l = l.rounds - l.r
+invariant-loop-r l = all (good l.classes1 l.classes2 l.n1) (pieces l.rounds l.n l.bytes) ≡ good_from (good l.classes1 l.classes2 l.n1) l.rounds l.n l.bytes l.r

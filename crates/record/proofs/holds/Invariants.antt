@@ -1,13 +1,12 @@
--- `record::holds`: no pair before `at` holds, so what is left from there on decides.
+-- `record::holds`: no pair before those left holds.
 use mathlib.Core.Path.{◌≡◌}
-use Prim.Native.Nat.{◌-◌}
-use lib.ListN.{drop, length}
+use lib.ListN.{length}
 use Rattle.front.specs.Front.{holds}
 use Rattle.record.specs.Record.{listed, paired}
 use Rattle.record.proofs.holds.Given as goal
 
-abbrev pub invariant-loop-at : goal.invariant-loop-at
-invariant-loop-at l = holds (listed l.bytes) l.a l.b ≡ holds (paired (drop l.at l.bytes)) l.a l.b
+abbrev pub invariant-loop-left : goal.invariant-loop-left
+invariant-loop-left l = holds (listed l.bytes) l.a l.b ≡ holds (paired l.left) l.a l.b
 
-abbrev pub decreases-loop-at : goal.decreases-loop-at
-decreases-loop-at l = length l.bytes - l.at
+abbrev pub decreases-loop-left : goal.decreases-loop-left
+decreases-loop-left l = length l.left
