@@ -4,7 +4,6 @@ ghost use Rattle.std.specs.Prelude.{◌≤◌, ◌<◌};
 use crate::{Answer, Call, told};
 use answer::Refusal;
 use test_answers::number;
-use test_support::part;
 
 // The words of the ring's tallies.
 pub(crate) const WORDS: usize = 13;
@@ -74,22 +73,27 @@ fn set<T: Copy + Drop>(values: &mut [T], at: usize, value: T) {
     }
 }
 
-// The first bytes of a slice; none where it has not that many.
-fn first(bytes: &[u8], n: usize) -> &[u8] {
-    bytes.get(..n).unwrap_or(&[])
+// The first values of a slice, at most n.
+fn first<T>(values: &[T], n: usize) -> &[T] {
+    values.get(..n).unwrap_or(values)
 }
 
-// What a call answers that fills a slice, with the first values lent to it: a refusal leaves them
-// as they were.
-fn lend<T: Copy + PartialEq + Drop, A: Drop, F: FnOnce(&mut [T]) -> Result<A, Refusal>>(
-    before: &[T],
-    out: &mut [T],
-    call: F,
-) -> Answer
+// What a call answers that fills the first values of an array, at most n: a refusal leaves them as
+// they were.
+fn lend<
+    T: Copy + PartialEq + Drop,
+    const N: usize,
+    A: Drop,
+    F: FnOnce(&mut [T]) -> Result<A, Refusal> + Drop,
+>(before: [T; N], n: usize, call: F) -> Answer
     requires { F.IsAlwaysCallable call }
 {
-    let answer = number(call(&mut *out));
-    told(answer, *out == *before)
+    let mut out = before;
+    let refusal = match out.get_mut(..n) {
+        Some(room) => number(call(room)),
+        None => number(call(&mut out)),
+    };
+    told(refusal, out == before)
 }
 
 impl Case {
@@ -136,5 +140,108 @@ impl Case {
 
     fn size(&self, number: Number) -> usize {
         self.word(number) as usize
+    }
+
+    fn left(&self) -> &[u8] {
+        first(&self.left, self.size(Number::LeftLength))
+    }
+
+    fn right(&self) -> &[u8] {
+        first(&self.right, self.size(Number::RightLength))
+    }
+
+    fn file(&self) -> &[u8] {
+        first(&self.file, self.size(Number::FileLength))
+    }
+
+    fn tally(&self) -> &[u32] {
+        first(&self.tally, self.size(Number::TallyLength))
+    }
+
+    // What the call's room holds before it: the numbers' low bytes, then the file's first.
+    fn before(&self) -> [u8; 64] {
+        let mut bytes = [0; 64];
+        bytes[20..].copy_from_slice(&self.file[..44]);
+        for (byte, number) in bytes.iter_mut().zip(self.numbers) {
+            *byte = (number % 256) as u8;
+        }
+        bytes
+    }
+
+    fn write(&self, out: &mut [u8]) -> Result<usize, Refusal> {
+        writer::write_study(
+            first(&self.file, self.size(Number::Nodes)),
+            first(&self.file[ARCS..], self.size(Number::Arcs)),
+            first(&self.file[ROUND..], self.size(Number::RoundBytes)),
+            self.size(Number::Source),
+            self.size(Number::Target),
+            self.size(Number::Rounds),
+            out,
+        )
+    }
+
+    // Lookup: its part is empty where the check refuses.
+    fn look_up(&self) -> Answer {
+        let round = self.size(Number::Round);
+        let refusal = number(study::check_round(self.file(), round));
+        let due = if refusal.is_none() {
+            &self.file[ROUND..TRAILER]
+        } else {
+            &[]
+        };
+        if study::round_bytes(self.file(), round) == due {
+            told(refusal, true)
+        } else {
+            Answer::Wrong
+        }
+    }
+
+    // The score is its word.
+    fn score(&self) -> Answer {
+        match tally::score(self.tally()) {
+            Ok(score) if score != self.tally[3] => Answer::Wrong,
+            answer => told(number(answer), true),
+        }
+    }
+
+    // What a call answers.
+    pub(crate) fn run(&self, call: Call) -> Answer {
+        let before = self.before();
+        let n1 = self.word(Number::Class1);
+        let n2 = self.word(Number::Class2);
+        let p1 = self.word(Number::Chance1);
+        let p2 = self.word(Number::Chance2);
+        match call {
+            Call::Writer => lend(before, self.size(Number::FileRoom), |out| self.write(out)),
+            Call::Search => lend(before, self.size(Number::FrontRoom), |out| {
+                search::search(self.file(), self.size(Number::Round), out)
+            }),
+            Call::Series => lend(before, self.size(Number::RecordRoom), |out| {
+                compose::series(self.left(), self.right(), out)
+            }),
+            Call::Parallel => lend(before, self.size(Number::RecordRoom), |out| {
+                compose::parallel(self.left(), self.right(), out)
+            }),
+            Call::New => lend(self.tally, self.size(Number::TallyLength), |words| {
+                tally::new(n1, n2, words)
+            }),
+            Call::Add => lend(self.tally, self.size(Number::TallyLength), |words| {
+                tally::add(self.left(), words)
+            }),
+            Call::Remove => lend(self.tally, self.size(Number::TallyLength), |words| {
+                tally::remove(self.left(), words)
+            }),
+            Call::Weights => lend(self.tally, self.size(Number::WeightsRoom), |words| {
+                weights::weights(n1, p1, words)
+            }),
+            Call::Opening => told(number(study::open_study(self.file())), true),
+            Call::Lookup => self.look_up(),
+            Call::Ageing => told(
+                number(weights::ageing(u64::from(self.word(Number::Age)))),
+                true,
+            ),
+            Call::Reliability => told(number(reliability::reliability(self.tally(), p1, p2)), true),
+            Call::Score => self.score(),
+        }
     }
 }
