@@ -30,7 +30,8 @@ struct Passed {
     sum: u32,
 }
 
-// A sum cut to a word: half the width of a whole one, and exact where no cell is above M.
+// A sum cut to a word: half the width of a whole one, and exact where no cell is above M. Not
+// `wrapping_add`: it would call std, whose code `AlwaysEnds` (kinds) cannot open.
 fn cut_sum(x: u32, y: u32) -> u32
     ensures { result ≡ cut (x + y) }
 {
@@ -44,19 +45,14 @@ fn pass_over(cells: &[u32], at: usize, count: usize, step: usize) -> Passed
     ensures rises { result.rises ≡ rises_by cells.now at step count }
     ensures sum { result.sum ≡ cut (sum_from cells.now at count) }
 {
-    let mut all = true;
+    let mut rises = true;
     let mut sum = 0;
-    let mut i = 0;
-    while i < count {
+    for i in 0..count {
         let x = cells[at + i];
-        all = all & (x <= cells[at + i + step]);
+        rises &= x <= cells[at + i + step];
         sum = cut_sum(sum, x);
-        i += 1;
     }
-    Passed {
-        rises: all,
-        sum: sum,
-    }
+    Passed { rises, sum }
 }
 
 // Whether each cell is at most the next in its row.
@@ -64,15 +60,11 @@ fn rows_rise(cells: &[u32], n1: usize, n2: usize) -> bool
     requires { (n1 ≤ max_class) × (n2 ≤ max_class) × ((n1 + 1) * (n2 + 1) ≤ length cells.now) }
     ensures { result ≡ rows_rise cells.now n2 (n1 + 1) }
 {
-    let mut all = true;
-    let mut at = 0;
-    let mut l1 = 0;
-    while l1 <= n1 {
-        all = all & pass_over(cells, at, n2, 1).rises;
-        at += n2 + 1;
-        l1 += 1;
+    let mut rise = true;
+    for l1 in 0..=n1 {
+        rise &= pass_over(cells, l1 * (n2 + 1), n2, 1).rises;
     }
-    all
+    rise
 }
 
 // Whether the last cell is at most m, no cell falls as l1 or l2 grows, and the score is the cells'
@@ -94,21 +86,21 @@ fn is_fair(cells: &[u32], n1: usize, n2: usize, m: u32, score: u32) -> bool
 pub fn check(tally: &[u32]) -> Result<(), Refusal>
     ensures { done result ≡ state_answer tally.now }
 {
-    if tally.len() < HEAD {
+    let [n1, n2, rounds, score, cells @ ..] = tally else {
         return Err(Refusal::TallyShort);
-    }
-    let n1 = tally[0] as usize;
-    let n2 = tally[1] as usize;
+    };
+    let n1 = *n1 as usize;
+    let n2 = *n2 as usize;
     if (n1 > MAX_CLASS) | (n2 > MAX_CLASS) {
         return Err(Refusal::TallyUnsound);
     }
-    if tally.len() < HEAD + (n1 + 1) * (n2 + 1) {
+    if cells.len() < (n1 + 1) * (n2 + 1) {
         return Err(Refusal::TallyShort);
     }
-    if tally[ROUNDS] > FULL {
+    if *rounds > FULL {
         return Err(Refusal::TallyUnsound);
     }
-    if !is_fair(&tally[HEAD..], n1, n2, tally[ROUNDS], tally[SCORE]) {
+    if !is_fair(cells, n1, n2, *rounds, *score) {
         return Err(Refusal::TallyUnsound);
     }
     Ok(())

@@ -4,299 +4,183 @@
 
 ghost use Rattle.std.specs.Prelude.{◌≤◌, ◌<◌};
 
-use answer::Refusal;
 use std::io;
-use test_support::{byte, equal, flag, line, part, pick, poke, put, word};
+use test_answers::number;
+use test_support::{byte, pick, put, word};
 use test_tallies::{
-    DOWN, HEAD, PAST, SCORE, Sizes, UP, begins, cell_sum, cells, copy, junk, record_of,
+    Answers, Causes, HEAD, ROUNDS, Record, SCORE, Sizes, Step, Words, causes_of, cell_sum,
+    cells_of, change, changed, copied, count, due, junk, record_of, state,
 };
 
-// The bytes between two records of a list, and how many records it has.
-const STRIDE: usize = 64;
+// What is counted: the answers; the causes of 31 where a remove answers 31, 22 or 23; scores by the
+// tally, and of the first words; and what the last lines of the output say.
+#[derive(Clone, Copy, Default)]
+struct Counts {
+    adds: Answers,
+    removes: Answers,
+    causes: [u64; 8],
+    unsound: [u64; 8],
+    sizes: [u64; 8],
+    scores: [u64; 5],
+    heads: [u64; 5],
+    own: u64,
+    remained: u64,
+    restored: u64,
+    strangers: u64,
+    wrong: u64,
+}
 
-const RECORDS: u64 = 4;
-
-// What a refused score is told from: the number is added.
-const REFUSED: u64 = 4294967296;
-
-// ---- counts: the numbers of adds, of removes; the causes of 31 where a remove answers 31, 22 or 23;
-// the faults where an add or a remove answers 22; scores by the tally, and of the first words
-const ADDS: u64 = 0;
-
-const REMOVES: u64 = 32;
-
-const CAUSES: u64 = 64;
-
-const UNSOUND: u64 = 72;
-
-const SIZES: u64 = 80;
-
-const FAULTS: u64 = 88;
-
-const SCORES: u64 = 96;
-
-const HEADS: u64 = 101;
-
-const OWN: u64 = 106;
-
-const REMAINED: u64 = 107;
-
-const RESTORED: u64 = 108;
-
-const STRANGERS: u64 = 109;
-
-const WRONG: u64 = 110;
-
-// A place that the counts do not have.
-const NONE: u64 = 1000;
-
-fn tick(counts: &mut [u64], k: u64) {
-    let i = k as usize;
-    if i < counts.len() {
-        counts[i] = counts[i] % 1000000 + 1;
+// Counts at a place that the counts have.
+fn tick(counts: &mut [u64], at: usize) {
+    if let Some(n) = counts.get_mut(at) {
+        count(n);
     }
-}
-
-fn judge(counts: &mut [u64], right: bool, k: u64) {
-    tick(counts, if right { k } else { WRONG });
-}
-
-fn shown(counts: &[u64], k: u64) -> u64 {
-    let i = k as usize;
-    if i < counts.len() { counts[i] } else { 0 }
-}
-
-fn show_if(rt: &impl Print, name: &[u8], counts: &[u64], base: u64, k: u64) -> io::Result<()>
-    requires { (base ≤ 200) × (k ≤ 100) }
-{
-    let n = shown(counts, base + k);
-    if n == 0 {
-        return Ok(());
-    }
-    rt.write_all(name)?;
-    print!(rt; "{k}")?;
-    line(rt, b": ", n)
-}
-
-fn show(
-    rt: &impl Print,
-    title: &[u8],
-    name: &[u8],
-    counts: &[u64],
-    base: u64,
-    end: u64,
-) -> io::Result<()>
-    requires { (base ≤ 200) × (end ≤ 40) }
-{
-    rt.write_all(title)?;
-    let mut k: u64 = 0;
-    while k < end {
-        show_if(rt, name, counts, base, k)?;
-        k += 1;
-    }
-    Ok(())
 }
 
 // ---- one call
-fn number(d: Result<(), Refusal>) -> u64
-    ensures { result ≤ 4294967295 }
-{
-    match d {
-        Ok(()) => 0,
-        Err(r) => u32::from(r) as u64,
-    }
+fn call(record: &[u8], step: Step, words: &mut Words) -> Option<u32> {
+    number(match step {
+        Step::Up => tally::add(record, words),
+        Step::Down => tally::remove(record, words),
+    })
 }
 
-fn call(record: &[u8], up: bool, words: &mut [u32]) -> u64
-    ensures { result ≤ 4294967295 }
-{
-    if up {
-        return number(tally::add(record, words));
-    }
-    number(tally::remove(record, words))
-}
-
-fn due(record: &[u8], up: bool, words: &[u32]) -> u64 {
-    if up {
-        return test_tallies::add_number(record, words);
-    }
-    test_tallies::remove_number(record, words)
-}
-
-fn step_of(up: bool) -> u64
-    ensures { result < 4294967296 }
-{
-    if up { UP } else { DOWN }
-}
-
-fn numbers_at(up: bool) -> u64
-    ensures { result ≤ 1000 }
-{
-    if up { ADDS } else { REMOVES }
-}
-
-// Where a remove's causes of 31 are counted.
-fn causes_at(up: bool, number: u64) -> u64
-    ensures { result ≤ 1000 }
-{
-    if up {
-        return NONE;
-    }
-    if number == 31 {
-        return CAUSES;
-    }
-    if number == 22 {
-        return UNSOUND;
-    }
-    if number == 23 { SIZES } else { NONE }
-}
-
-// Counts the fault of a tally that was answered by 22.
-fn blame(up: bool, number: u64, words: &[u32], counts: &mut [u64]) {
-    if number != 22 {
-        return;
-    }
-    let at = FAULTS + 4 * flag(!up);
-    tick(counts, at + test_tallies::fault(words));
+// By cause of 31: 1 for M, 2 for a cell, 4 for the outcome, or their sum.
+fn tick_cause(counts: &mut [u64; 8], causes: Causes) {
+    let at = u8::from(causes.rounds) + 2 * u8::from(causes.cell) + 4 * u8::from(causes.outcome);
+    tick(counts, usize::from(at));
 }
 
 // ---- the score
-// The score, or a refusal's number.
-fn scored(words: &[u32]) -> u64 {
-    match tally::score(words) {
-        Ok(n) => n as u64,
-        Err(r) => REFUSED + u32::from(r) as u64,
+#[derive(Clone, Copy)]
+enum Kind {
+    Sound,
+    Unsound,
+    // the cells do not fit
+    Short,
+    // a size is above 64
+    Large,
+    // below four words
+    Headless,
+}
+
+fn kind_of(words: &[u32]) -> Kind {
+    if words.len() < HEAD {
+        return Kind::Headless;
+    }
+    if (64 < word(words, 0)) | (64 < word(words, 1)) {
+        return Kind::Large;
+    }
+    match state(words) {
+        Ok(()) => Kind::Sound,
+        Err(21) => Kind::Short,
+        Err(_) => Kind::Unsound,
     }
 }
 
-fn score_due(words: &[u32]) -> u64 {
-    if words.len() < HEAD {
-        return REFUSED + 21;
-    }
-    word(words, SCORE)
-}
-
-// 0 for a sound tally, 1 for one that is not, 2 where the cells do not fit, 3 for a size above 64, 4
-// below four words.
-fn state_of(words: &[u32]) -> u64
-    ensures { result ≤ 4 }
-{
-    if words.len() < HEAD {
-        return 4;
-    }
-    if (word(words, 0) > 64) | (word(words, 1) > 64) {
-        return 3;
-    }
-    let n = test_tallies::state(words);
-    if n == 21 {
-        return 2;
-    }
-    flag(n != 0)
+// The score's word, or the number of a refusal.
+fn is_score(words: &[u32]) -> bool {
+    let due = words.get(SCORE).copied().ok_or(21);
+    tally::score(words).map_err(u32::from) == due
 }
 
 // The score is the word; the sum of all cells too where nothing but calls changed the tally.
-fn try_score(own: bool, words: &[u32], counts: &mut [u64]) {
-    let got = scored(words);
-    judge(counts, got == score_due(words), SCORES + state_of(words));
+fn try_score(own: bool, words: &[u32], counts: &mut Counts) {
+    if is_score(words) {
+        tick(&mut counts.scores, kind_of(words) as usize);
+    } else {
+        count(&mut counts.wrong);
+    }
     if own {
-        judge(counts, got == cell_sum(words), OWN);
+        let whole = tally::score(words).is_ok_and(|n| u64::from(n) == cell_sum(words));
+        count(if whole {
+            &mut counts.own
+        } else {
+            &mut counts.wrong
+        });
     }
 }
 
-// The first k words, or none.
-fn first(words: &[u32], k: usize) -> &[u32] {
-    if words.len() < k {
-        return &words[0..0];
-    }
-    &words[0..k]
-}
-
-fn try_head(head: &[u32], counts: &mut [u64]) {
-    let at = HEADS + head.len() as u64 % 5;
-    judge(counts, scored(head) == score_due(head), at);
-}
-
-// The score of the first words of a tally.
-fn try_heads(words: &[u32], counts: &mut [u64]) {
-    let mut k: usize = 0;
-    while k <= HEAD {
-        try_head(first(words, k), counts);
-        k += 1;
+// The score of the first words of a tally, or of none where it has fewer.
+fn try_heads(words: &[u32], counts: &mut Counts) {
+    for k in 0..=HEAD {
+        let head = words.get(..k).unwrap_or(&[]);
+        if is_score(head) {
+            tick(&mut counts.heads, head.len());
+        } else {
+            count(&mut counts.wrong);
+        }
     }
 }
 
 // ---- a step
-// An add or a remove, and the score; the number that the first answered.
-fn made(record: &[u8], up: bool, own: bool, words: &mut [u32], counts: &mut [u64]) -> u64
-    ensures { result ≤ 4294967295 }
-{
-    let n = call(record, up, words);
+// An add or a remove, and the score; what the first answered.
+fn made(
+    record: &[u8],
+    step: Step,
+    own: bool,
+    words: &mut Words,
+    counts: &mut Counts,
+) -> Option<u32> {
+    let got = call(record, step, words);
     try_score(own, words, counts);
-    n
+    got
 }
 
 // The same against the plain reading.
-fn try_move(record: &[u8], up: bool, own: bool, words: &mut [u32], counts: &mut [u64]) -> u64 {
-    let mut want = [0u32; 4240];
-    copy(words, &mut want);
-    let n = due(record, up, words);
-    let causes = test_tallies::causes(record, words);
-    test_tallies::change(record, &mut want, n == 0, step_of(up));
-    let got = made(record, up, own, words, counts);
-    let right = (got == n) & begins(&want, words);
-    judge(counts, right, numbers_at(up) + got % 32);
-    tick(counts, causes_at(up, got) + causes);
-    blame(up, got, words, counts);
+fn try_move(
+    record: &[u8],
+    step: Step,
+    own: bool,
+    words: &mut Words,
+    counts: &mut Counts,
+) -> Option<u32> {
+    let refused = due(record, words, step).err();
+    let want = match refused {
+        None => changed(record, words, step),
+        Some(_) => copied(words),
+    };
+    let got = made(record, step, own, words, counts);
+    let answers = match step {
+        Step::Up => &mut counts.adds,
+        Step::Down => &mut counts.removes,
+    };
+    answers.judge(got, (got == refused) & (want == *words));
+    answers.blame(got, words);
+    match (step, got) {
+        (Step::Down, Some(31)) => tick_cause(&mut counts.causes, causes_of(record, &want)),
+        (Step::Down, Some(22)) => tick_cause(&mut counts.unsound, causes_of(record, &want)),
+        (Step::Down, Some(23)) => tick_cause(&mut counts.sizes, causes_of(record, &want)),
+        _ => {}
+    }
     got
 }
 
 // A remove that succeeds, and an add of the same record: the words are as they were.
-fn try_back(record: &[u8], own: bool, words: &mut [u32], counts: &mut [u64]) {
-    let mut was = [0u32; 4240];
-    copy(words, &mut was);
-    if made(record, false, own, words, counts) != 0 {
+fn try_back(record: &[u8], own: bool, words: &mut Words, counts: &mut Counts) {
+    let was = copied(words);
+    if made(record, Step::Down, own, words, counts).is_some() {
         return;
     }
-    let again = made(record, true, own, words, counts) == 0;
-    judge(counts, again & begins(&was, words), RESTORED);
+    let again = made(record, Step::Up, own, words, counts).is_none();
+    let right = again & (was == *words);
+    count(if right {
+        &mut counts.restored
+    } else {
+        &mut counts.wrong
+    });
 }
 
 // ---- a list
-// Record k of a list.
-fn record_at(records: &[u8], k: u64) -> &[u8]
-    requires { k ≤ 4 }
-{
-    let at = STRIDE * k as usize;
-    let n = byte(records, at + 2) as usize;
-    part(records, at, 3 + 2 * n)
+// A record of a list, and how many times it was added and not yet removed.
+#[derive(Drop)]
+struct Entry {
+    record: Record,
+    held: u64,
 }
 
-// One more or one fewer, where it is due.
-fn more(x: u64, up: bool, due: bool) -> u64
-    requires { x < 4294967296 }
-{
-    if !due {
-        return x;
-    }
-    if up {
-        return x + 1;
-    }
-    if x == 0 { 0 } else { x - 1 }
-}
-
-// Whether a record was added and not yet removed.
-fn is_held(record: &[u8], records: &[u8], held: &[u32]) -> bool {
-    let mut found = false;
-    let mut k: u64 = 0;
-    while k < RECORDS {
-        found = found | ((0 < word(held, k as usize)) & equal(record, record_at(records, k)));
-        k += 1;
-    }
-    found
-}
-
-// A list: where it is legal a remove is of a record that was added and not yet removed. Whether
-// nothing but calls changed the tally since it was new.
+// Moves from a seed. Where the list is legal a remove is of a record that was added and not yet
+// removed. Whether nothing but calls changed the tally since it was new.
 #[derive(Clone, Copy)]
 struct List {
     seed: u64,
@@ -304,123 +188,74 @@ struct List {
     own: bool,
 }
 
-// Where a move is counted that a legal list refuses, or that removes what was not added.
-fn mark(list: List, number: u64, strange: bool) -> u64 {
-    if list.legal & (number != 0) {
-        return WRONG;
+// Whether a record was added and not yet removed.
+fn is_held(record: &Record, entries: &[Entry]) -> bool {
+    entries.iter().any(|e| (0 < e.held) & (e.record == *record))
+}
+
+impl List {
+    // Move j of a list.
+    fn step(self, j: u64, entries: &mut [Entry; 4], words: &mut Words, counts: &mut Counts)
+        requires { j ≤ 100 }
+    {
+        let k = pick(self.seed, 300 + j, 4) as usize % 4;
+        let entry = &entries[k];
+        let up = (pick(self.seed, 400 + j, 9) < 5) | (self.legal & (entry.held == 0));
+        let step = if up { Step::Up } else { Step::Down };
+        let refused = try_move(&entry.record, step, self.own, words, counts).is_some();
+        let strange = !up & !is_held(&entry.record, entries);
+        if self.legal & refused {
+            count(&mut counts.wrong);
+        } else if self.own & !refused & strange {
+            count(&mut counts.strangers);
+        }
+        if !refused {
+            let held = &mut entries[k].held;
+            *held = match step {
+                Step::Up => held.saturating_add(1),
+                Step::Down => held.saturating_sub(1),
+            };
+        }
     }
-    if list.own & (number == 0) & strange {
-        STRANGERS
-    } else {
-        NONE
+
+    fn steps(self, entries: &mut [Entry; 4], words: &mut Words, counts: &mut Counts) {
+        for entry in entries.iter_mut() {
+            entry.held = 0;
+        }
+        for j in 0..24 {
+            self.step(j, entries, words, counts);
+        }
     }
-}
 
-// Move j of a list.
-fn step(list: List, j: u64, records: &[u8], held: &mut [u32], words: &mut [u32], counts: &mut [u64])
-    requires { j ≤ 100 }
-{
-    let k = pick(list.seed, 300 + j, RECORDS) % 4;
-    let have = word(held, k as usize);
-    let record = record_at(records, k);
-    let up = (pick(list.seed, 400 + j, 9) < 5) | (list.legal & (have == 0));
-    let got = try_move(record, up, list.own, words, counts);
-    let strange = !up & !is_held(record, records, held);
-    tick(counts, mark(list, got, strange));
-    put(held, k as usize, more(have, up, got == 0));
-}
-
-fn steps(list: List, records: &[u8], held: &mut [u32], words: &mut [u32], counts: &mut [u64]) {
-    let mut j: u64 = 0;
-    while j < 24 {
-        step(list, j, records, held, words, counts);
-        j += 1;
+    // A list; after a legal one the words are those of the adds that remain, the last record's first.
+    fn run(self, entries: &mut [Entry; 4], words: &mut Words, counts: &mut Counts) {
+        let mut want = copied(words);
+        self.steps(entries, words, counts);
+        if self.legal {
+            for entry in entries.iter().rev() {
+                for _ in 0..entry.held {
+                    change(&entry.record, &mut want, Step::Up);
+                }
+            }
+            let right = want == *words;
+            count(if right {
+                &mut counts.remained
+            } else {
+                &mut counts.wrong
+            });
+        }
     }
-}
-
-// As many adds of one record, cell by cell.
-fn add_all(record: &[u8], many: u64, want: &mut [u32]) {
-    let mut i: u64 = 0;
-    while i < many {
-        test_tallies::change(record, want, true, UP);
-        i += 1;
-    }
-}
-
-// The adds that remain, the last record's first.
-fn add_rest(records: &[u8], held: &[u32], want: &mut [u32]) {
-    let mut k = RECORDS;
-    while 0 < k {
-        k -= 1;
-        add_all(record_at(records, k), word(held, k as usize), want);
-    }
-}
-
-// A list; after a legal one the words are those of the adds that remain.
-fn try_list(list: List, records: &[u8], words: &mut [u32], counts: &mut [u64]) {
-    let mut want = [0u32; 4240];
-    let mut held = [0u32; 4];
-    copy(words, &mut want);
-    steps(list, records, &mut held, words, counts);
-    add_rest(records, &held, &mut want);
-    let right = begins(&want, words) | !list.legal;
-    judge(counts, right, if list.legal { REMAINED } else { NONE });
-}
-
-// Any list after a word is damaged.
-fn try_damaged(seed: u64, records: &[u8], words: &mut [u32], counts: &mut [u64]) {
-    let mut held = [0u32; 4];
-    test_tallies::damage(seed, 40, words);
-    let list = List {
-        seed: seed % 2147483648 + 1,
-        legal: false,
-        own: false,
-    };
-    steps(list, records, &mut held, words, counts);
-}
-
-// M from 0 to 3, or near 100,000.
-fn rounds_of(seed: u64) -> u64 {
-    pick(seed, 50, 4) + 99998 * flag(pick(seed, 51, 3) == 0)
-}
-
-// A new tally, or one with another M, for a list.
-fn start(seed: u64, s: Sizes, words: &mut [u32], counts: &mut [u64]) -> List
-    requires { (s.n1 ≤ 64) × (s.n2 ≤ 64) }
-{
-    let done = tally::new(s.n1 as u32, s.n2 as u32, words);
-    let list = list_of(seed, number(done) == 0);
-    try_score(list.own, words, counts);
-    put(words, if list.own { PAST } else { 2 }, rounds_of(seed));
-    list
-}
-
-fn try_words(seed: u64, s: Sizes, records: &[u8], words: &mut [u32], counts: &mut [u64])
-    requires { (s.n1 ≤ 64) × (s.n2 ≤ 64) }
-{
-    let list = start(seed, s, words, counts);
-    try_list(list, records, words, counts);
-    try_back(record_at(records, 0), list.own, words, counts);
-    try_damaged(seed, records, words, counts);
-    try_heads(words, counts);
 }
 
 // ---- what lists are made of
-fn size_of(seed: u64, i: u64) -> Sizes
-    ensures { (result.n1 ≤ 64) × (result.n2 ≤ 64) }
-{
+fn sizes_of(seed: u64, i: u64) -> Sizes {
     if i % 29 == 0 {
         return Sizes { n1: 64, n2: 64 };
     }
-    if i % 3 != 0 {
-        return Sizes {
-            n1: pick(seed, 1, 24),
-            n2: pick(seed, 2, 24),
-        };
-    }
+    let most = if i % 3 == 0 { 7 } else { 24 };
     Sizes {
-        n1: pick(seed, 1, 7),
-        n2: pick(seed, 2, 7),
+        n1: pick(seed, 1, most),
+        n2: pick(seed, 2, most),
     }
 }
 
@@ -428,219 +263,202 @@ fn is_legal(seed: u64) -> bool {
     pick(seed, 4, 2) == 0
 }
 
-// A list, and whether it is tried on a tally as new made it.
-fn list_of(seed: u64, made: bool) -> List {
-    let legal = is_legal(seed);
-    List {
-        seed: seed,
-        legal: legal,
-        own: made & (legal | (pick(seed, 54, 2) == 0)),
+// M from 0 to 3, or near 100,000.
+fn rounds_of(seed: u64) -> u64 {
+    let m = pick(seed, 50, 4);
+    if pick(seed, 51, 3) == 0 { m + 99998 } else { m }
+}
+
+// The n pairs of a record behind its first `skip`.
+fn part_of(record: &[u8], skip: usize, n: usize) -> Record
+    requires { (skip ≤ 100) × (n ≤ 100) }
+{
+    let start = 3 + 2 * skip;
+    let mut part = Record::new();
+    part.push(byte(record, 0) as u8);
+    part.push(byte(record, 1) as u8);
+    part.push(n as u8);
+    let _ = part.try_extend_from_slice(record.get(start..start + 2 * n).unwrap_or(&[]));
+    part
+}
+
+// Record k of a list. Where the list is not legal, records 0 and 1 have half of the pairs of record 2
+// each, so that it can be removed once both are added; and record 3 has one more than the tally's n1.
+fn make_record(seed: u64, s: Sizes, k: u64) -> Record
+    requires { (k ≤ 4) × (seed < 2147483648) }
+{
+    match k {
+        _ if is_legal(seed) => record_of(seed + k, s),
+        0 | 1 => {
+            let whole = record_of(seed + 2, s);
+            let n = usize::from(whole[2]);
+            part_of(&whole, if k == 0 { 0 } else { n / 2 }, n - n / 2)
+        }
+        2 => record_of(seed + k, s),
+        _ => record_of(
+            seed + k,
+            Sizes {
+                n1: (s.n1 + 1).min(65),
+                n2: s.n2,
+            },
+        ),
     }
 }
 
-// The sizes of record k: of the last, one more than the tally's where the list is not legal.
-fn sizes_of(seed: u64, s: Sizes, k: u64) -> Sizes
-    requires { (s.n1 ≤ 64) × (s.n2 ≤ 64) }
-    ensures { (result.n1 ≤ 70) × (result.n2 ≤ 70) }
+fn make_entry(seed: u64, s: Sizes, k: u64) -> Entry
+    requires { (k ≤ 4) × (seed < 2147483648) }
 {
-    if is_legal(seed) | (k != 3) {
-        return s;
-    }
-    Sizes {
-        n1: s.n1 + 1,
-        n2: s.n2,
-    }
-}
-
-// Stores n pairs of a record, after its first `skip`.
-fn store(from: &[u8], skip: usize, n: u64, to: &mut [u8], at: usize)
-    requires { (skip ≤ 100) × (at ≤ 1000) }
-{
-    let mut i: usize = 0;
-    while i < STRIDE {
-        let place = if i < 3 { i } else { 2 * skip + i };
-        poke(to, at + i, byte(from, place));
-        i += 1;
-    }
-    poke(to, at + 2, n);
-}
-
-// Where a list is not legal, records 0 and 1 have half of the pairs of record 2 each: once both are
-// added it can be removed.
-fn make_record(seed: u64, s: Sizes, k: u64, records: &mut [u8])
-    requires { (s.n1 ≤ 64) × (s.n2 ≤ 64) × (k ≤ 4) × (seed < 2147483648) }
-{
-    let half = !is_legal(seed) & (k < 2);
-    let mut record = [0u8; 64];
-    let sizes = sizes_of(seed, s, k);
-    record_of(if half { seed + 2 } else { seed + k }, sizes, &mut record);
-    let n = byte(&record, 2);
-    let skip = if half & (k == 1) { n / 2 } else { 0 };
-    let left = if half { n - n / 2 } else { n };
-    store(
-        &record,
-        skip as usize % 64,
-        left,
-        records,
-        STRIDE * k as usize,
-    );
-}
-
-fn make_records(seed: u64, s: Sizes, records: &mut [u8])
-    requires { (s.n1 ≤ 64) × (s.n2 ≤ 64) × (seed < 2147483648) }
-{
-    let mut k: u64 = 0;
-    while k < RECORDS {
-        make_record(seed, s, k, records);
-        k += 1;
+    Entry {
+        record: make_record(seed, s, k),
+        held: 0,
     }
 }
 
 // A slice with room and a few words to spare; for a list that is not legal also one word short, and
 // at most four words.
-fn room(seed: u64, cells: usize) -> usize
-    requires { cells ≤ 4225 }
+fn room(seed: u64, s: Sizes) -> usize
     ensures { result ≤ 4240 }
 {
-    let kind = pick(seed, 5, 13);
-    if is_legal(seed) | (1 < kind) {
-        return HEAD + cells + pick(seed, 3, 4) as usize;
+    let end = HEAD + cells_of(s.n1, s.n2).unwrap_or(0);
+    match pick(seed, 5, 13) {
+        0 if !is_legal(seed) => end - 1,
+        1 if !is_legal(seed) => pick(seed, 6, 5) as usize,
+        _ => end + pick(seed, 3, 4) as usize,
     }
-    if kind == 0 {
-        return HEAD - 1 + cells;
-    }
-    pick(seed, 6, 5) as usize
 }
 
-fn try_case(i: u64, counts: &mut [u64]) {
+// A list on a new tally, or on one with another M; and any list after a word is damaged.
+fn try_case(i: u64, counts: &mut Counts) {
     let seed = test_support::seed(i);
-    let s = size_of(seed, i);
-    let mut records = [0u8; 256];
-    make_records(seed, s, &mut records);
-    let mut words = [0u32; 4240];
-    junk(seed, &mut words);
-    let n = room(seed, cells(s.n1 as usize, s.n2 as usize));
-    try_words(seed, s, &records, &mut words[0..n], counts);
+    let s = sizes_of(seed, i);
+    let mut entries = [
+        make_entry(seed, s, 0),
+        make_entry(seed, s, 1),
+        make_entry(seed, s, 2),
+        make_entry(seed, s, 3),
+    ];
+    let mut words = junk(seed, room(seed, s));
+    let made = tally::new(s.n1 as u32, s.n2 as u32, &mut words).is_ok();
+    let legal = is_legal(seed);
+    let own = made & (legal | (pick(seed, 54, 2) == 0));
+    try_score(own, &words, counts);
+    if !own {
+        put(&mut words, ROUNDS, rounds_of(seed));
+    }
+    List { seed, legal, own }.run(&mut entries, &mut words, counts);
+    try_back(&entries[0].record, own, &mut words, counts);
+    test_tallies::damage(seed, 40, &mut words);
+    let list = List {
+        seed: seed + 1,
+        legal: false,
+        own: false,
+    };
+    list.steps(&mut entries, &mut words, counts);
+    try_heads(&words, counts);
 }
 
-fn lists(counts: &mut [u64]) {
-    let mut i: u64 = 0;
-    while i < 2000 {
-        try_case(i, counts);
-        i += 1;
+// A front that always holds, added and removed where every cell is m: a sum above 16 bits, and the
+// largest there are.
+fn levels(counts: &mut Counts) {
+    for m in [16, 99999, 100000] {
+        let mut words = test_tallies::level(m);
+        for step in [Step::Up, Step::Down] {
+            try_move(&[64, 64, 1, 65, 65], step, false, &mut words, counts);
+        }
     }
 }
 
-// A front that always holds, added and removed where every cell is m.
-fn try_level(m: u64, counts: &mut [u64]) {
-    let record = [64u8, 64, 1, 65, 65];
-    let mut words = [0u32; 4240];
-    test_tallies::level(m, &mut words);
-    try_move(&record, true, false, &mut words, counts);
-    try_move(&record, false, false, &mut words, counts);
+// ---- output
+// A title, and the counts that are not 0, by their places.
+fn show(rt: &impl Print, title: &str, name: &str, counts: &[u64]) -> io::Result<()> {
+    println!(rt; "{title}")?;
+    for (k, &n) in counts.iter().enumerate() {
+        if n != 0 {
+            println!(rt; "  {name} {k}: {n}")?;
+        }
+    }
+    Ok(())
 }
 
-// A sum above 16 bits, and the largest there are.
-fn levels(counts: &mut [u64]) {
-    try_level(16, counts);
-    try_level(99999, counts);
-    try_level(100000, counts);
-}
-
-fn show_moves(rt: &impl Print, counts: &[u64]) -> io::Result<()> {
-    show(rt, b"adds\n", b"  number ", counts, ADDS, 32)?;
+fn show_moves(rt: &impl Print, counts: &Counts) -> io::Result<()> {
+    show(rt, "adds", "number", &counts.adds.numbers)?;
     show(
         rt,
-        b"adds that answered 22, by fault: 1 the score alone, 2 not the score, 3 a score right only modulo 2^32, 0 both\n",
-        b"  fault ",
-        counts,
-        FAULTS,
-        4,
+        "adds that answered 22, by fault: 1 the score alone, 2 not the score, 3 a score right only modulo 2^32, 0 both",
+        "fault",
+        &counts.adds.faults,
     )?;
-    show(rt, b"removes\n", b"  number ", counts, REMOVES, 32)?;
+    show(rt, "removes", "number", &counts.removes.numbers)?;
     show(
         rt,
-        b"removes that answered 22, by fault\n",
-        b"  fault ",
-        counts,
-        FAULTS + 4,
-        4,
+        "removes that answered 22, by fault",
+        "fault",
+        &counts.removes.faults,
     )
 }
 
-fn show_causes(rt: &impl Print, counts: &[u64]) -> io::Result<()> {
+fn show_causes(rt: &impl Print, counts: &Counts) -> io::Result<()> {
     show(
         rt,
-        b"removes that answered 31, by cause: 1 M, 2 a cell, 4 the outcome, or their sum\n",
-        b"  cause ",
-        counts,
-        CAUSES,
-        8,
+        "removes that answered 31, by cause: 1 M, 2 a cell, 4 the outcome, or their sum",
+        "cause",
+        &counts.causes,
     )?;
     show(
         rt,
-        b"removes that answered 22, by cause of 31\n",
-        b"  cause ",
-        counts,
-        UNSOUND,
-        8,
+        "removes that answered 22, by cause of 31",
+        "cause",
+        &counts.unsound,
     )?;
     show(
         rt,
-        b"removes that answered 23, by cause of 31\n",
-        b"  cause ",
-        counts,
-        SIZES,
-        8,
+        "removes that answered 23, by cause of 31",
+        "cause",
+        &counts.sizes,
     )
 }
 
-fn show_scores(rt: &impl Print, counts: &[u64]) -> io::Result<()> {
+fn show_scores(rt: &impl Print, counts: &Counts) -> io::Result<()> {
     show(
         rt,
-        b"scores after a step, by the tally: 0 sound, 1 not, 2 cells do not fit, 3 a size above 64, 4 under four words: 21\n",
-        b"  tally ",
-        counts,
-        SCORES,
-        5,
+        "scores after a step, by the tally: 0 sound, 1 not, 2 cells do not fit, 3 a size above 64, 4 under four words: 21",
+        "tally",
+        &counts.scores,
     )?;
     show(
         rt,
-        b"scores of the first words: 21 under four\n",
-        b"  words ",
-        counts,
-        HEADS,
-        5,
+        "scores of the first words: 21 under four",
+        "words",
+        &counts.heads,
     )
 }
 
-fn show_rest(rt: &impl Print, counts: &[u64]) -> io::Result<()> {
-    line(
-        rt,
-        b"scores that are the sum of all cells, where nothing but calls changed the tally ",
-        shown(counts, OWN),
+fn show_rest(rt: &impl Print, counts: &Counts) -> io::Result<()> {
+    println!(rt;
+        "scores that are the sum of all cells, where nothing but calls changed the tally {}",
+        counts.own
     )?;
-    line(
-        rt,
-        b"legal lists whose words are those of the adds that remain ",
-        shown(counts, REMAINED),
+    println!(rt;
+        "legal lists whose words are those of the adds that remain {}",
+        counts.remained
     )?;
-    line(
-        rt,
-        b"removes added back that restored the words ",
-        shown(counts, RESTORED),
+    println!(rt;
+        "removes added back that restored the words {}",
+        counts.restored
     )?;
-    line(
-        rt,
-        b"removes of a front that was not added, on tallies that nothing but calls changed ",
-        shown(counts, STRANGERS),
+    println!(rt;
+        "removes of a front that was not added, on tallies that nothing but calls changed {}",
+        counts.strangers
     )?;
-    line(rt, b"wrong ", shown(counts, WRONG))
+    let calls = counts.adds.wrong.saturating_add(counts.removes.wrong);
+    println!(rt; "wrong {}", counts.wrong.saturating_add(calls))
 }
 
 fn main(rt: HostRuntime) -> io::Result<()> {
-    let mut counts = [0u64; 111];
-    lists(&mut counts);
+    let mut counts = Counts::default();
+    for i in 0..2000 {
+        try_case(i, &mut counts);
+    }
     levels(&mut counts);
     show_moves(&rt, &counts)?;
     show_causes(&rt, &counts)?;

@@ -1,11 +1,7 @@
 -- `soundness::pass_over` looks at one cell after another, without an early exit.
 use mathlib.Core.Path.{◌≡◌}
-use Prim.Native.Nat.{◌-◌, ◌≤◌}
 use Rattle.soundness.specs.Steps.{cut, rises_by, sum_from}
 use Rattle.soundness.proofs.pass_over.Given as goal
 
 abbrev pub invariant-loop-i : goal.invariant-loop-i
-invariant-loop-i l = (l.i ≤ l.count) × (l.all ≡ rises_by l.cells l.at l.step l.i) × (l.sum ≡ cut (sum_from l.cells l.at l.i))
-
-abbrev pub decreases-loop-i : goal.decreases-loop-i
-decreases-loop-i l = l.count - l.i
+invariant-loop-i l = (l.rises ≡ rises_by l.cells l.at l.step l.i) × (l.sum ≡ cut (sum_from l.cells l.at l.i))

@@ -1,9 +1,6 @@
--- The loop of `cell_sum` goes over the cells: each is a word, so that 64 bits hold the sum.
-use Prim.Native.Nat.{◌-◌, ◌*◌, ◌≤◌}
+-- The loop of `cell_sum` goes over the cells, each below 2^32.
+use Rattle.std.proofs.Common.{◌*◌, ◌≤◌}
 use Rattle.test_tallies.proofs.cell_sum.Given as goal
 
-abbrev pub invariant-loop-k : goal.invariant-loop-k
-invariant-loop-k l = (l.k ≤ l.n) × (l.n ≤ 4225) × (l.s ≤ l.k * 4294967295)
-
-abbrev pub decreases-loop-k : goal.decreases-loop-k
-decreases-loop-k l = l.n - l.k
+abbrev pub invariant-loop-x : goal.invariant-loop-x
+invariant-loop-x l = l.sum ≤ 4294967295 * l.x-index

@@ -1,11 +1,7 @@
 -- The loop of `record_of` tries twelve pairs; no more are listed than tried.
-use mathlib.Core.Path.{◌≡◌}
-use Prim.Native.Nat.{◌-◌, ◌≤◌}
-use lib.ListN.{length}
+use Rattle.std.proofs.Common.{◌+◌, ◌*◌, ◌≤◌}
+use Rattle.arrayvec.specs.ArrayVec.{array_vec_len}
 use Rattle.test_tallies.proofs.record_of.Given as goal
 
 abbrev pub invariant-loop-i : goal.invariant-loop-i
-invariant-loop-i l = (l.i ≤ 12) × (l.k ≤ l.i) × (l.p1 ≤ 72) × (l.p2 ≤ 71) × (length l.out ≡ length l.initial.out)
-
-abbrev pub decreases-loop-i : goal.decreases-loop-i
-decreases-loop-i l = 12 - l.i
+invariant-loop-i l = (3 ≤ array_vec_len l.record) × (array_vec_len l.record ≤ 3 + 2 * l.i) × (l.p1 ≤ 67) × (l.p2 ≤ 66)
