@@ -16,8 +16,10 @@ use Rattle.orders.specs.Order.{place_in_class}
 use Rattle.slices.proofs.Placing.{placed-next}
 use Rattle.slices.specs.Steps.{placed}
 use Rattle.parts.specs.Study.{Arc}
+use Rattle.parts.specs.Steps.{bad_before}
+use Rattle.parts.specs.Tests.{bad_arc}
 use Rattle.split.proofs.Members.{map_at}
-use Rattle.convert.specs.Old.{old_arc_size, old_arcs_from}
+use Rattle.convert.specs.Old.{old_arc_size, old_arcs_from, old_bad_arcs}
 use Rattle.convert.specs.Convert.{with_kinds}
 use Rattle.convert.proofs.Entries.{kinds-length}
 
@@ -39,6 +41,14 @@ arc-end f b l i h = rw (few i (drop (old_arc_size * i) l) (omega (arith, length-
     few j [] k = refl
     few j (x ∷ []) k = refl
     few j (x ∷ y ∷ m) k = absurd (omega arith)
+
+-- the scan for a bad one, of arcs of two bytes
+bad_to : (n : ℕ) (l : List ℕ) (i : ℕ) → i ≤ length l / old_arc_size → old_bad_arcs n l ≡ (bad_before n old_arc_size l i || any_arc (λ k. bad_arc n k.from k.to) l i)
+bad_to n l zero h = refl
+bad_to n l (suc i) h = bad_to n l i (omega arith) ∙ arc-next (λ k. bad_arc n k.from k.to) (bad_before n old_arc_size l i) l i (omega arith) ∙ rw (add-one i)
+
+pub bad_all : (n : ℕ) (l : List ℕ) → old_bad_arcs n l ≡ bad_before n old_arc_size l (length l / old_arc_size)
+bad_all n l = let i = length l / old_arc_size in bad_to n l i (omega arith) ∙ arc-end (λ k. bad_arc n k.from k.to) (bad_before n old_arc_size l i) l i (omega arith)
 
 -- ---- entries of kind 0
 -- one more behind i of them

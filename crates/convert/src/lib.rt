@@ -1,4 +1,6 @@
 // The converter: an old study file, with arcs of two bytes and rounds of node numbers, in the new form.
+// Refusals are handed on without `?`: the theorems AlwaysEnds speak of all code that a call runs, and
+// std's cannot be opened.
 #![tactic(auto)]
 
 ghost use Rattle.std.specs.Prelude.{◌≡◌, [], ◌∷◌, ◌++◌, map, ◌+◌, ◌*◌, ◌/◌, ◌≤◌, length, get_or};
@@ -6,14 +8,14 @@ ghost use Rattle.limits.specs.Limits.{max_nodes, arc_size, trailer_size};
 ghost use Rattle.answer.specs.Outcome.{written, done, outcome};
 ghost use Rattle.slices.specs.Bytes.{words_bytes};
 ghost use Rattle.slices.specs.Steps.{placed};
-ghost use Rattle.convert.specs.Old.{old_arc_size, old_bad_arcs, old_part_tests};
+ghost use Rattle.convert.specs.Old.{old_arc_size, old_part_tests};
 ghost use Rattle.convert.specs.Convert.{with_kinds, by_places, convert_tests, convert_answer, convert_out};
 ghost use Rattle.convert.specs.Steps.{NodesBelow, PlaceTable};
 
 use answer::Refusal;
 use limits::{ARC, MAX_NODES, TRAILER};
 use orders::count;
-use parts::{Sizes, bad_orders, test_parts};
+use parts::{bad_arcs, bad_orders, test_parts};
 use sections::{arc_bytes, node_bytes, read_trailer, round_at};
 use slices::put;
 use study::test_trailer;
@@ -22,30 +24,15 @@ use writer::put_trailer;
 // The bytes of an old arc: from, to.
 const OLD_ARC: usize = 2;
 
-// Number 8, for n nodes.
-fn bad_old_arcs(n: u8, arcs: &[u8]) -> bool
-    ensures { result ≡ old_bad_arcs n arcs.now }
-{
-    let mut bad = false;
-    let mut i = 0;
-    while i < arcs.len() / OLD_ARC {
-        let from = arcs[OLD_ARC * i];
-        let to = arcs[OLD_ARC * i + 1];
-        bad = bad | ((n <= from) | (n <= to) | (from == to));
-        i += 1;
-    }
-    bad
-}
-
 // Numbers 5, 6 and 8; the first two are those of a study without arcs.
 fn test_old_parts(nodes: &[u8], arcs: &[u8]) -> Result<(), Refusal>
     requires { length nodes.now ≤ max_nodes }
     ensures { done result ≡ outcome (old_part_tests (length nodes.now) nodes.now arcs.now) (0 ∷ []) }
 {
-    if let Err(r) = test_parts(nodes, &arcs[0..0]) {
+    if let Err(r) = test_parts(nodes, &arcs[..0]) {
         return Err(r);
     }
-    if bad_old_arcs(nodes.len() as u8, arcs) {
+    if bad_arcs::<OLD_ARC>(nodes.len() as u8, arcs) {
         return Err(Refusal::Arc);
     }
     Ok(())
@@ -81,10 +68,8 @@ fn places(nodes: &[u8]) -> [u8; MAX_NODES]
     ensures { PlaceTable nodes.now result }
 {
     let mut place = [0u8; MAX_NODES];
-    let mut v = 0;
-    while v < nodes.len() {
-        place[v] = count(&nodes[0..v], nodes[v]) as u8;
-        v += 1;
+    for (v, &class) in nodes.iter().enumerate() {
+        place[v] = count(&nodes[..v], class) as u8;
     }
     place
 }
@@ -94,11 +79,9 @@ fn put_arcs(arcs: &[u8], out: &mut [u8], at: usize)
     requires { at + arc_size * (length arcs.now / old_arc_size) ≤ length out.old }
     ensures { out.new ≡ placed at (with_kinds arcs.now) out.old }
 {
-    let mut i = 0;
-    while i < arcs.len() / OLD_ARC {
+    for i in 0..arcs.len() / OLD_ARC {
         let entry = [arcs[OLD_ARC * i], arcs[OLD_ARC * i + 1], 0];
         put(&entry, out, at + ARC * i);
-        i += 1;
     }
 }
 
@@ -108,11 +91,8 @@ fn put_rounds(place: &[u8], rounds: &[u8], out: &mut [u8], at: usize)
     requires room { at + length rounds.now ≤ length out.old }
     ensures { out.new ≡ placed at (map (λ v. get_or place.now v 0) rounds.now) out.old }
 {
-    let mut i = 0;
-    while i < rounds.len() {
-        let v = rounds[i] as usize;
-        out[at + i] = place[v];
-        i += 1;
+    for (i, &v) in rounds.iter().enumerate() {
+        out[at + i] = place[v as usize];
     }
 }
 

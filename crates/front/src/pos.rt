@@ -1,5 +1,5 @@
 // Positions of a class.
-ghost use Rattle.std.specs.Prelude.{◌≡◌, min, leb, ltb, eqb};
+ghost use Rattle.std.specs.Prelude.{◌≡◌, min, max, leb, ltb, eqb};
 
 // A position of a class, counted from 1; one more than the class has members stands for none of them.
 // The class is part of the type, so that a minimum or a comparison never crosses classes.
@@ -13,6 +13,12 @@ impl<const CLASS: u8> Pos<CLASS> {
         ensures { result.0 ≡ min self.entry.0 other.entry.0 }
     {
         if self.0 < other.0 { self } else { other }
+    }
+
+    pub fn max(self, other: Pos<CLASS>) -> Pos<CLASS>
+        ensures { result.0 ≡ max self.entry.0 other.entry.0 }
+    {
+        if other.0 <= self.0 { self } else { other }
     }
 
     pub fn at_least(self, other: Pos<CLASS>) -> bool

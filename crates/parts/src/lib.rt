@@ -14,7 +14,7 @@ ghost use Rattle.parts.specs.Steps.{sizes_of, arc_tests, counted, bad_before, Lo
 
 use answer::Refusal;
 use limits::{ARC, MAX_ARCS, MAX_CLASS, MAX_KIND, MAX_NODES, MAX_ROUNDS, MIN_NODES};
-use orders::{are_orders, count};
+use orders::{ONES, TWOS, are_orders, count};
 use slices::part;
 
 // Document 01's n1 and n2: the elements of classes 1 and 2.
@@ -228,7 +228,5 @@ pub fn bad_rounds(bytes: &[u8], n1: usize, n2: usize, rounds: usize) -> bool
     requires { (n1 ≤ max_class) × (n2 ≤ max_class) × (rounds ≤ max_rounds) }
     ensures { result ≡ not (all (λ x. is_order n1 (take n1 x) && is_order n2 (drop n1 x)) (pieces rounds (n1 + n2) bytes.now)) }
 {
-    let ones = [1u8; MAX_CLASS];
-    let twos = [2u8; MAX_CLASS];
-    bad_orders(&ones[..n1], &twos[..n2], bytes, n1, n2, rounds)
+    bad_orders(&ONES[..n1], &TWOS[..n2], bytes, n1, n2, rounds)
 }

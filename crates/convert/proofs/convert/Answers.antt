@@ -19,28 +19,11 @@ use Rattle.convert.specs.Convert.{convert_tests, convert_bytes}
 use Rattle.convert.proofs.Converts.{fits, nodes-long, arcs-long, rounds-long, rounds-below}
 use Rattle.convert.proofs.Stages.{rounds-size, rounds-part}
 use Rattle.convert.proofs.Writes.{bytes_same, long-is, long-small, words_are}
-use borrow.Author.Rules.{rules}
 use Rattle.convert.proofs.convert.Goals as goal
 
 pub returns-in-Err : goal.returns-in-Err
 returns-in-Err c = let f = c.args.old.now in
     let both = fill-refused (convert_tests f) (convert_bytes f) c.args.out.now _ (sym c.test_old.ensures ∙ ap done c.in-Err.is) in record { answer = both.0; slice = both.1 }
-
-pub overflow_mul-dm : goal.overflow_mul-dm
-overflow_mul-dm c =
-    let one : c.count.result ≡ count 1 (nodes_of c.args.old.now) = c.count.ensures.0 ∙ ap (count 1) c.node_bytes-nodes.ensures in
-    let two : c.count-2.result ≡ count 2 (nodes_of c.args.old.now) = c.count-2.ensures.0 ∙ ap (count 2) c.node_bytes-nodes.ensures in
-    let dm-is : let h = c.read_trailer-t.result in h.rounds * (c.count.result + c.count-2.result) ≡ (trailer c.args.old.now).rounds * round_size (nodes_of c.args.old.now) = rounds-size c.args.old.now c.read_trailer-t.result c.count.result c.count-2.result c.read_trailer-t.ensures (one) (two) in
-    let passed : outcome (convert_tests c.args.old.now) (0 ∷ []) ≡ success (0 ∷ []) = sym c.test_old.ensures ∙ ap done c.in_default.is in
-    let small : let h = trailer c.args.old.now in h.nodes + arc_size * h.arcs + h.rounds * round_size (nodes_of c.args.old.now) + trailer_size ≤ max_file = long-small c.args.old.now (passed) in
-    omega (arith, dm-is, small)
-
-pub overflow_mul-da : goal.overflow_mul-da
-overflow_mul-da c =
-    let known : let h = c.read_trailer-t.result in (h.nodes ≡ (trailer c.args.old.now).nodes) × (h.arcs ≡ (trailer c.args.old.now).arcs) = (ap (λ (h : Trailer). h.nodes) c.read_trailer-t.ensures, ap (λ (h : Trailer). h.arcs) c.read_trailer-t.ensures) in
-    let passed : outcome (convert_tests c.args.old.now) (0 ∷ []) ≡ success (0 ∷ []) = sym c.test_old.ensures ∙ ap done c.in_default.is in
-    let small : let h = trailer c.args.old.now in h.nodes + arc_size * h.arcs + h.rounds * round_size (nodes_of c.args.old.now) + trailer_size ≤ max_file = long-small c.args.old.now (passed) in
-    omega (arith, known, small)
 
 pub overflow_add-da : goal.overflow_add-da
 overflow_add-da c =

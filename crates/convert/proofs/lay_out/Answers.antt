@@ -13,12 +13,7 @@ use Rattle.slices.specs.Steps.{placed}
 use Rattle.convert.specs.Old.{old_arc_size}
 use Rattle.convert.specs.Convert.{with_kinds}
 use Rattle.convert.proofs.Entries.{kinds-length}
-use borrow.Author.Rules.{rules}
 use Rattle.convert.proofs.lay_out.Goals as goal
-
-pub put_rounds-requires : goal.put_rounds-requires
-put_rounds-requires c = let nodes = c.requires.nodes in
-    record { nodes = (λ v m. omega (arith, nodes.0, nodes.1 v m)); room = omega arith }
 
 pub returns : goal.returns
 returns c = let a = c.args in

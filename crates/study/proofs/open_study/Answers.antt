@@ -13,24 +13,8 @@ use Rattle.laws.specs.Sums.{product-most}
 use Rattle.study.specs.Calls.{open_answer, trailer_tests}
 use Rattle.parts.specs.Steps.{counted}
 use Rattle.sections.specs.declared.Trailer.{Trailer}
-use Rattle.study.proofs.Opens.{first_tests, next_answer, first_fits, same_parts, next-sizes, open-first, open_next, open-third}
-use Rattle.study.proofs.Trailers.{nodes-length}
+use Rattle.study.proofs.Opens.{first_tests, next_answer, first_fits, same_parts, next-sizes, open_next, open-third}
 use Rattle.study.proofs.open_study.Goals as goal
-
-pub returns-in-Err : goal.returns-in-Err
-returns-in-Err c =
-    let file : List ℕ = c.args.file.now in
-    let first : done c.test_trailer.result ≡ outcome (first_tests (file)) (0 ∷ []) = c.test_trailer.ensures ∙ ap (λ (h : Trailer). outcome (trailer_tests arc_size (length (file)) h) (0 ∷ [])) c.read_trailer-t.ensures in
-    open-first (file) _ (sym (first) ∙ ap done c.in-Err.is)
-
-pub test_parts-requires : goal.test_parts-requires
-test_parts-requires c =
-    let file : List ℕ = c.args.file.now in
-    let first : done c.test_trailer.result ≡ outcome (first_tests (file)) (0 ∷ []) = c.test_trailer.ensures ∙ ap (λ (h : Trailer). outcome (trailer_tests arc_size (length (file)) h) (0 ∷ [])) c.read_trailer-t.ensures in
-    let passed : outcome (first_tests (file)) (0 ∷ []) ≡ success (0 ∷ []) = sym (first) ∙ ap done c.in_default.is in
-    let f = file in
-    let fits = first_fits f (passed) in
-    omega (arith, ap length c.node_bytes.ensures, nodes-length f fits, fits.nodes-most)
 
 pub overflow_add-n1 : goal.overflow_add-n1
 overflow_add-n1 c =

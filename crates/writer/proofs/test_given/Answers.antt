@@ -15,28 +15,8 @@ use Rattle.orders.specs.Order.{is_order}
 use Rattle.parts.specs.Study.{pieces, round_size}
 use Rattle.parts.specs.Steps.{counted}
 use Rattle.writer.specs.Writer.{Given, given, given_elements, bad_given, bad_round_bytes, bad_given_orders, count_tests}
-use Rattle.writer.proofs.Answers.{node_answer, given-counts, counts-pass, given-first, given-next, given-last, given-sizes, given-few}
+use Rattle.writer.proofs.Answers.{node_answer, given-counts, counts-pass, given-next, given-last, given-sizes, given-few}
 use Rattle.writer.proofs.test_given.Goals as goal
-
-pub returns-then-bad_counts-arcs : goal.returns-then-bad_counts-arcs
-returns-then-bad_counts-arcs c =
-    let of : Given = let a = c.args in given a.nodes.now a.arcs.now a.rounds.now a.source a.target a.total in
-    let two : let g = of in (c.bad_counts.result || not (eqb (length g.arcs % arc_size) 0)) ≡ bad_given g = ap (λ t. t || not (eqb (length c.args.arcs.now % arc_size) 0)) c.bad_counts.ensures in
-    given-first (of) 2 (rw (sym (two) ∙ c.if-bad_counts-arcs.true))
-
-pub returns-then-bad_ends : goal.returns-then-bad_ends
-returns-then-bad_ends c =
-    let of : Given = let a = c.args in given a.nodes.now a.arcs.now a.rounds.now a.source a.target a.total in
-    let two : let g = of in (c.bad_counts.result || not (eqb (length g.arcs % arc_size) 0)) ≡ bad_given g = ap (λ t. t || not (eqb (length c.args.arcs.now % arc_size) 0)) c.bad_counts.ensures in
-    let good : bad_given (of) ≡ false = sym (two) ∙ c.if-bad_counts-arcs.false in
-    given-first (of) 3 (rw (good, sym c.bad_ends.ensures ∙ c.if-bad_ends.true))
-
-pub test_parts-requires : goal.test_parts-requires
-test_parts-requires c =
-    let of : Given = let a = c.args in given a.nodes.now a.arcs.now a.rounds.now a.source a.target a.total in
-    let two : let g = of in (c.bad_counts.result || not (eqb (length g.arcs % arc_size) 0)) ≡ bad_given g = ap (λ t. t || not (eqb (length c.args.arcs.now % arc_size) 0)) c.bad_counts.ensures in
-    let good : bad_given (of) ≡ false = sym (two) ∙ c.if-bad_counts-arcs.false in
-    (given-counts (of) (good)).1
 
 pub overflow_add-n1 : goal.overflow_add-n1
 overflow_add-n1 c =

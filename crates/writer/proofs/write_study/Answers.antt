@@ -6,25 +6,13 @@ use Rattle.answer.specs.Outcome.{success, outcome, done}
 use Rattle.answer.proofs.Fills.{fill-refused, fill-delivered, deliver-short, deliver-done}
 use Rattle.slices.proofs.Placing.{placed_first}
 use Rattle.writer.specs.Writer.{Given, given, given_tests, study_bytes}
-use Rattle.writer.proofs.Answers.{given-small, bytes-length}
+use Rattle.writer.proofs.Answers.{bytes-length}
 use Rattle.writer.proofs.write_study.Goals as goal
 
 pub returns-in-Err : goal.returns-in-Err
 returns-in-Err c =
     let of : Given = let a = c.args in given a.nodes.now a.arcs.now a.rounds.now a.source a.target a.total in
     let both = fill-refused (given_tests (of)) (study_bytes (of)) c.args.out.now _ (sym c.test_given.ensures ∙ ap done c.in-Err.is) in record { answer = both.0; slice = both.1 }
-
-pub overflow_add-dn-2 : goal.overflow_add-dn-2
-overflow_add-dn-2 c =
-    let of : Given = let a = c.args in given a.nodes.now a.arcs.now a.rounds.now a.source a.target a.total in
-    let passed : outcome (given_tests (of)) (0 ∷ []) ≡ success (0 ∷ []) = sym c.test_given.ensures ∙ ap done c.in_default.is in
-    omega (arith, given-small (of) (passed))
-
-pub overflow_add-end : goal.overflow_add-end
-overflow_add-end c =
-    let of : Given = let a = c.args in given a.nodes.now a.arcs.now a.rounds.now a.source a.target a.total in
-    let passed : outcome (given_tests (of)) (0 ∷ []) ≡ success (0 ∷ []) = sym c.test_given.ensures ∙ ap done c.in_default.is in
-    omega (arith, given-small (of) (passed))
 
 pub returns-then-out-end : goal.returns-then-out-end
 returns-then-out-end c =
