@@ -106,9 +106,10 @@ fn try_network(seed: u64, kind: Kind, counts: &mut Counts) {
 
 // All kinds of networks in turn, one at the limits.
 fn kind_of(i: u64) -> Kind {
-    match Kind::ALL[(i % 8) as usize] {
-        Kind::Limits if i != 6 => Kind::Small,
-        kind => kind,
+    if i % 8 == 6 && i != 6 {
+        Kind::Small
+    } else {
+        Kind::ALL[(i % 8) as usize]
     }
 }
 
