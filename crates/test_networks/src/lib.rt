@@ -1,7 +1,8 @@
 // Networks made from a seed: node bytes, arc bytes and rounds of a study.
 #![tactic(auto)]
 
-ghost use Rattle.std.specs.Prelude.{◌≤◌, ◌<◌, length};
+ghost use Rattle.arrayvec.specs.ArrayVec.{array_vec_len};
+ghost use Rattle.std.specs.Prelude.{◌+◌, ◌≤◌, ◌<◌, length};
 
 use arrayvec::ArrayVec;
 use test_support::{pick, times};
@@ -359,6 +360,7 @@ pub type Rounds = ArrayVec<u8, 1024>;
 // Each place of a class of n members once, in an order at random, after the rounds so far.
 fn order(seed: u64, n: usize, rounds: &mut Rounds)
     requires { n ≤ 64 }
+    ensures { array_vec_len rounds.new ≤ array_vec_len rounds.old + n }
 {
     let mut order = [0u8; 64];
     for (k, place) in order.iter_mut().enumerate() {
@@ -375,6 +377,7 @@ fn order(seed: u64, n: usize, rounds: &mut Rounds)
 // One more round: the order of class 1, then that of class 2.
 pub fn round(seed: u64, n1: usize, n2: usize, rounds: &mut Rounds)
     requires { (n1 ≤ 64) × (n2 ≤ 64) }
+    ensures { array_vec_len rounds.new ≤ array_vec_len rounds.old + 128 }
 {
     order(seed, n1, rounds);
     order(seed, n2, rounds);

@@ -23,32 +23,30 @@ struct Route {
     left: u8,
 }
 
-// An arc taken one way, which may be closed.
+// An arc taken one way.
 #[derive(Clone, Copy)]
 struct Step {
     arc: usize,
     from: u8,
     to: u8,
     against: bool,
-    open: bool,
 }
 
-fn steps(k: usize, arc: &Arc) -> [Step; 2] {
+// An arc's steps: along it, and where it leads both ways against it.
+fn steps(k: usize, arc: &Arc) -> [Option<Step>; 2] {
     let along = Step {
         arc: k,
         from: arc.from,
         to: arc.to,
         against: false,
-        open: true,
     };
     let against = Step {
         arc: k,
         from: arc.to,
         to: arc.from,
         against: true,
-        open: arc.both_ways,
     };
-    [along, against]
+    [Some(along), arc.both_ways.then_some(against)]
 }
 
 // The position of a member in an order; one past the last where it has none.
@@ -67,7 +65,7 @@ impl Route {
     fn step(mut self, round: &Round, step: Step) -> Option<Route>
         ensures { IfSome result (λ route. route.left + 1 ≡ self.left) }
     {
-        if !step.open | (step.from != self.at) | (self.left == 0) {
+        if (step.from != self.at) | (self.left == 0) {
             return None;
         }
         let seen = self.seen.get_mut(step.to as usize)?;
@@ -115,7 +113,9 @@ impl Routes {
         }
         for (k, arc) in round.network.arcs.iter().enumerate() {
             for step in steps(k, arc) {
-                if let Some(longer) = route.step(round, step) {
+                if let Some(step) = step
+                    && let Some(longer) = route.step(round, step)
+                {
                     self.walk(round, longer);
                 }
             }
