@@ -22,7 +22,7 @@ pub loop-i-preserved : goal.loop-i-preserved
 loop-i-preserved c =
     let r = c.args.«record».now in
     let l = c.loop-i in
-    let i = pair-in r ((record_is r).0 c.requires.1) false l.i (omega (arith, l.invariant.2)) in (
+    let i = pair-in r ((record_is r).0 c.requires.1) l.i (omega (arith, l.invariant.2)) in (
       text-more pair_text (listed r) l.i (pair_of 0 0) c.args.line.now.bytes l.line.bytes c.pair.new.line.bytes i.2 l.invariant.0 (c.pair.ensures.text ∙ ap (λ p. l.line.bytes ++ pair_text p) (c.pair_at.ensures ∙ i.0)),
       omega (arith, c.pair.ensures.room),
       l.invariant.2,
