@@ -17,10 +17,11 @@ use Rattle.record.proofs.Records.{IsRecord, record_is}
 use Rattle.soundness.specs.Tally.{width}
 use Rattle.soundness.proofs.Totals.{total-most}
 use Rattle.cells.specs.Cells.{cell_rows, held}
-use Rattle.cells.specs.Steps.{changed_word, changed_part, peak, peak_at, CanChange, Fitting, CellsCanChange, changed_cell, changed_cells, held_cells, starts_line, line_test, Lines}
+use Rattle.cells.specs.declared.Along.TheVariants.{Rows, Columns}
+use Rattle.cells.specs.Steps.{changed_word, peak, peak_at, CanChange, Fitting, CellsCanChange, changed_cell, changed_cells, held_cells, starts_line, line_test, Lines}
 use Rattle.limits.specs.Limits.{max_class}
 use Rattle.cells.proofs.Peaks.{holds-peak, peak-next, peak-none, peak-most, turn-within}
-use Rattle.cells.proofs.Tables.{table-length, table-snoc, row-changed}
+use Rattle.cells.proofs.Tables.{changed_part, table-length, table-snoc, row-changed}
 
 -- whether the record holds, by its height
 pub held-true : (r : List ℕ) (n1 n2 l1 l2 : ℕ) → n2 - l2 < peak (listed r) (n1 - l1) → record_holds r (n1 - l1) (n2 - l2) ≡ true
@@ -95,7 +96,7 @@ module _ {r old : List ℕ} {n1 n2 : ℕ} (ok : Fitting old r n1 n2) where
   room_for : (l1 l2 : ℕ) → l1 < n1 + 1 → l2 < width n2 → l1 * width n2 + l2 < length old
   room_for l1 l2 h k = let b : l1 + 1 ≤ n1 + 1 = omega arith in omega (arith, ok.room, mul-le-mul_right (width n2) b)
 
-  pub rows_lie : Lines old r false (n1 + 1) (width n2) (width n2) 1
+  pub rows_lie : Lines old r Rows (n1 + 1) (width n2) (width n2) 1
   rows_lie =
       record {
         is = ok.is;
@@ -104,7 +105,7 @@ module _ {r old : List ℕ} {n1 n2 : ℕ} (ok : Fitting old r n1 n2) where
         room = λ k i h b. omega (arith, room_for k i h b);
       }
 
-  pub columns-lie : Lines old r true (width n2) (n1 + 1) 1 (width n2)
+  pub columns-lie : Lines old r Columns (width n2) (n1 + 1) 1 (width n2)
   columns-lie =
       record {
         is = ok.is;

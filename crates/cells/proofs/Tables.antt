@@ -1,14 +1,15 @@
 -- Lists of cells: their lengths and what stands where.
 use mathlib.Core.Path.{◌≡◌, refl, sym, ap, ap₂, ◌∙◌}
-use mathlib.Core.List.{List, [], ◌∷◌, ◌++◌, append-nil, append_assoc}
+use mathlib.Core.List.{List, ◌∷◌, ◌++◌, map, append-nil, append_assoc}
+use borrow.Rule.Slice.PartMut.{put_mid}
 use Prim.Native.Nat.{ℕ, zero, suc, ◌+◌, ◌-◌, ◌*◌, ◌≤◌, ◌<◌}
 use native.Mathlib.Nat.{suc-mul, zero-mul}
 use native.Mathlib.Omega.{arith}
-use lib.ListN.{length, get_or, set, take, drop, replicate, length-append, length-replicate, length-drop, replicate-append-replicate, take-append-drop}
-use lib.Seq.{length-take-le, drop-cons, set_at, get_or_at, append_snoc, take-add, take-append-add, drop-append-add, get_or-append-add, get_or-drop, drop-drop}
-use Rattle.laws.specs.Lists.{list_to, list_length, list_at, list_same, list-split, list-snoc, take-list}
+use lib.ListN.{length, get_or, set, take, drop, replicate, length-append, length-replicate, length-drop, length-take, replicate-append-replicate}
+use lib.Seq.{get_or-take, drop-cons, set_at, append_snoc, take-add, take-append-add, drop-append-add, get_or-append-add, get_or-drop, drop-drop}
+use Rattle.laws.specs.Lists.{list_to, list_length, list_at, list_same, list-split, take-list}
 use Rattle.cells.specs.Cells.{cell_rows}
-use Rattle.cells.specs.Steps.{changed_word, changed_part}
+use Rattle.cells.specs.Steps.{changed_word}
 
 pub table-length : (n m : ℕ) (c : ℕ → ℕ → ℕ) → length (cell_rows n m c) ≡ n * m
 table-length zero m c = sym (zero-mul m)
@@ -70,6 +71,10 @@ pub table-snoc : (n m : ℕ) (c : ℕ → ℕ → ℕ) → cell_rows (suc n) m c
 table-snoc zero m c = append-nil (list_to m (c 0))
 table-snoc (suc n) m c = ap (λ r. list_to m (c 0) ++ r) (table-snoc n m (λ i. c (suc i))) ∙ sym (append_assoc (list_to m (c 0)) (cell_rows n m (λ i. c (suc i))) (list_to m (c (suc n))))
 
+-- the n words from a place on changed
+abbrev pub changed_part : ℕ → ℕ → List ℕ → ℕ → ℕ → List ℕ
+changed_part up down l from n = take from l ++ list_to n (λ i. changed_word up down (get_or l (from + i) 0)) ++ drop (from + n) l
+
 -- the last y cells of a row of w changed, where `done` stands in front of the row
 module _ (up down : ℕ) (old done : List ℕ) (w y : ℕ) (f : ℕ → ℕ) (fits : y ≤ w) (room : length done + w ≤ length old)
     (low : (i : ℕ) → i < w - y → f i ≡ get_or old (length done + i) 0)
@@ -97,25 +102,20 @@ module _ (up down : ℕ) (old done : List ℕ) (w y : ℕ) (f : ℕ → ℕ) (fi
       ap₂ (λ a b. a ++ list_to y (λ i. changed_word up down (get_or (done ++ rest) (length done + (w - y) + i) 0)) ++ b) (take-append-add done rest (w - y)) (ap (λ k. drop k (done ++ rest)) e ∙ drop-append-add done rest w ∙ drop-drop w (length done) old)
       ∙ ap (λ r. r ++ drop (length done + w) old) (append_assoc done (take (w - y) rest) (list_to y (λ i. changed_word up down (get_or (done ++ rest) (length done + (w - y) + i) 0))) ∙ ap (λ r. done ++ r) row_is)
 
-module _ (up down : ℕ) (l : List ℕ) (from i : ℕ) (h : from + i < length l) where
-  front_length : length (take from l ++ list_to i (λ k. changed_word up down (get_or l (from + k) 0))) ≡ from + i
-  front_length = length-append (take from l) (list_to i (λ k. changed_word up down (get_or l (from + k) 0))) ∙ omega (arith, length-take-le from l (omega arith), list_length i (λ k. changed_word up down (get_or l (from + k) 0)))
+map-list : (f g : ℕ → ℕ) (n : ℕ) → map f (list_to n g) ≡ list_to n (λ i. f (g i))
+map-list f g zero = refl
+map-list f g (suc n) = ap (λ l. f (g 0) ∷ l) (map-list f (λ i. g (suc i)) n)
 
-  pub part-value : get_or (changed_part up down l from i) (from + i) 0 ≡ get_or l (from + i) 0
-  part-value =
-      ap (λ r. get_or (take from l ++ list_to i (λ k. changed_word up down (get_or l (from + k) 0)) ++ r) (from + i) 0) (drop-cons l (from + i) 0 h)
-      ∙ get_or_at (take from l ++ list_to i (λ k. changed_word up down (get_or l (from + k) 0))) (get_or l (from + i) 0) (drop (suc (from + i)) l) 0 (from + i) front_length
+-- a part that was lent
+pub part-at : (l : List ℕ) (from k i : ℕ) → i < length (take k (drop from l)) → get_or (take k (drop from l)) i 0 ≡ get_or l (from + i) 0
+part-at l from k i h = get_or-take k (drop from l) i 0 (omega (arith, length-take k (drop from l))) ∙ get_or-drop from l i 0
 
-  pub part-next : set (changed_part up down l from i) (from + i) (changed_word up down (get_or (changed_part up down l from i) (from + i) 0)) ≡ changed_part up down l from (i + 1)
-  part-next =
-      let e : suc (from + i) ≡ from + (i + 1) = omega arith in
-      ap (λ x. set (changed_part up down l from i) (from + i) (changed_word up down x)) part-value
-      ∙ ap (λ r. set (take from l ++ list_to i (λ k. changed_word up down (get_or l (from + k) 0)) ++ r) (from + i) (changed_word up down (get_or l (from + i) 0))) (drop-cons l (from + i) 0 h)
-      ∙ set_at (take from l ++ list_to i (λ k. changed_word up down (get_or l (from + k) 0))) (get_or l (from + i) 0) (drop (suc (from + i)) l) (changed_word up down (get_or l (from + i) 0)) (from + i) front_length
-      ∙ sym (append_snoc (take from l ++ list_to i (λ k. changed_word up down (get_or l (from + k) 0))) (changed_word up down (get_or l (from + i) 0)) (drop (suc (from + i)) l))
-      ∙ ap₂ ◌++◌ (append_assoc (take from l) (list_to i (λ k. changed_word up down (get_or l (from + k) 0))) ((changed_word up down (get_or l (from + i) 0)) ∷ []) ∙ ap (λ r. take from l ++ r) (list-snoc i (λ k. changed_word up down (get_or l (from + k) 0)))) (ap (λ k. drop k l) e)
-
-pub part_none : (up down : ℕ) (l : List ℕ) (from : ℕ) → l ≡ changed_part up down l from 0
-part_none up down l from =
-    let e : from ≡ from + 0 = omega arith in
-    sym (take-append-drop from l) ∙ ap₂ ◌++◌ (sym (append-nil (take from l))) (ap (λ k. drop k l) e)
+pub part-changed : (up down : ℕ) (l : List ℕ) (from k n : ℕ) {new : List ℕ} → k ≡ n → from + n ≤ length l → new ≡ map (changed_word up down) (take k (drop from l))
+    → put_mid from k l new ≡ changed_part up down l from n
+part-changed up down l from k n e h f =
+    let g : ℕ → ℕ = λ i. changed_word up down (get_or l (from + i) 0) in
+    let mapped : map (changed_word up down) (take n (drop from l)) ≡ list_to n g =
+    ap (map (changed_word up down)) (take-list n (drop from l) 0 (omega (arith, length-drop from l))) ∙ map-list (changed_word up down) (λ i. get_or (drop from l) i 0) n
+    ∙ list_same n (λ i. changed_word up down (get_or (drop from l) i 0)) g (λ i _. ap (changed_word up down) (get_or-drop from l i 0)) in
+    ap (λ m. take from l ++ (m ++ drop k (drop from l))) f ∙ ap (λ j. take from l ++ (map (changed_word up down) (take j (drop from l)) ++ drop j (drop from l))) e
+    ∙ ap₂ (λ m r. take from l ++ (m ++ r)) mapped (drop-drop n from l) ∙ sym (append_assoc (take from l) (list_to n g) (drop (from + n) l))

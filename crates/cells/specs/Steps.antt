@@ -1,22 +1,30 @@
 -- STEPS: what proofs and the contracts between our crates speak of. Nobody has to believe these: no promise to a caller cites them.
-use Rattle.std.specs.Prelude.{◌≡◌, Bool, true, false, cond, ◌&&◌, ◌||◌, List, [], ◌∷◌, ◌++◌, map, ℕ, ◌+◌, ◌-◌, ◌*◌, ◌≤◌, ◌<◌, max, T, eqb, leb, ltb, length, get_or, drop, take}
+use Rattle.std.specs.Prelude.{◌≡◌, Bool, cond, ◌&&◌, ◌||◌, List, [], ◌∷◌, ◌++◌, map, ℕ, ◌+◌, ◌-◌, ◌*◌, ◌≤◌, ◌<◌, max, T, eqb, leb, ltb, length, get_or, drop}
 use Rattle.limits.specs.Limits.{max_position}
-use Rattle.laws.specs.Lists.{list_to}
 use Rattle.laws.specs.Members.{◌∈◌}
 use Rattle.laws.specs.Every.{every}
 use Rattle.front.specs.declared.Pair.{Pair}
 use Rattle.front.specs.Pair.{pair_of}
 use Rattle.record.specs.Record.{is_record, listed, record_holds, record_size1, record_size2}
 use Rattle.soundness.specs.Tally.{width, cell_sum}
+use Rattle.cells.specs.declared.Along.{Along}
+use Rattle.cells.specs.declared.Along.TheVariants.{Rows, Columns}
 use Rattle.cells.specs.Cells.{cell_rows, held}
 
--- ---- pairs as they are, or with their positions exchanged
-abbrev pub turn : Bool → Pair → Pair
-turn flip p = cond flip (pair_of p.p2.0 p.p1.0) p
+-- ---- pairs as they are, for rows, or with their positions exchanged, for columns
+abbrev pub exchange : Pair → Pair
+exchange p = pair_of p.p2.0 p.p1.0
 
-abbrev pub turn_all : Bool → List Pair → List Pair
-turn_all true l = map (turn true) l
-turn_all false l = l
+abbrev pub exchange_all : List Pair → List Pair
+exchange_all l = map exchange l
+
+abbrev pub turn : Along → Pair → Pair
+turn Rows p = p
+turn Columns p = exchange p
+
+abbrev pub turn_all : Along → List Pair → List Pair
+turn_all Rows l = l
+turn_all Columns l = exchange_all l
 
 -- ---- heights of a list of pairs, as the code has them
 -- the largest p2 of the pairs with p1 above a, and of those with p1 = x; 0 where there is none
@@ -35,10 +43,6 @@ changed_word up down x = x + up - down
 -- it stays a word, and does not fall below 0
 abbrev pub CanChange : ℕ → ℕ → ℕ → Type 0
 CanChange up down x = (x + up < 4294967296) × (down ≤ x + up)
-
--- the n words from a place on changed
-abbrev pub changed_part : ℕ → ℕ → List ℕ → ℕ → ℕ → List ℕ
-changed_part up down l from n = take from l ++ list_to n (λ i. changed_word up down (get_or l (from + i) 0)) ++ drop (from + n) l
 
 -- a record of these class sizes, and room for the cells
 pub record Fitting (cells r : List ℕ) (n1 n2 : ℕ) : Type 0 where
@@ -77,11 +81,11 @@ line_test l lines cells n stride step k = starts_line cells (k * stride) n (peak
 abbrev pub edges_test : List ℕ → ℕ → ℕ → List ℕ → Bool
 edges_test r n1 n2 cells =
     every (n1 + 1) (line_test (listed r) (n1 + 1) cells (width n2) (width n2) 1)
-    && every (width n2) (line_test (turn_all true (listed r)) (width n2) cells (n1 + 1) 1 (width n2))
+    && every (width n2) (line_test (exchange_all (listed r)) (width n2) cells (n1 + 1) 1 (width n2))
 
 -- lines of cells, and a record whose pairs are within them
-pub record Lines (cells r : List ℕ) (flip : Bool) (lines n stride step : ℕ) : Type 0 where
+pub record Lines (cells r : List ℕ) (along : Along) (lines n stride step : ℕ) : Type 0 where
   pub is : T (is_record r)
   pub few : (lines ≤ max_position) × (0 < n) × (stride ≤ max_position)
-  pub within : (p : Pair) → p ∈ turn_all flip (listed r) → (p.p1.0 ≤ lines) × (p.p2.0 ≤ n)
+  pub within : (p : Pair) → p ∈ turn_all along (listed r) → (p.p1.0 ≤ lines) × (p.p2.0 ≤ n)
   pub room : (k i : ℕ) → k < lines → i < n → k * stride + i * step < length cells

@@ -2,66 +2,61 @@
 // it may be lowered.
 #![tactic(auto)]
 
-ghost use Rattle.std.specs.Prelude.{◌≡◌, ◌||◌, ℕ, ◌+◌, ◌*◌, ◌≤◌, ◌<◌, max, T, ltb, length, get_or};
+ghost use Rattle.std.specs.Prelude.{◌≡◌, ◌||◌, map, ℕ, ◌+◌, ◌*◌, ◌≤◌, ◌<◌, T, ltb, length, get_or};
 ghost use Rattle.limits.specs.Limits.{max_position};
 ghost use Rattle.laws.specs.Every.{every};
 ghost use Rattle.record.specs.Record.{listed, is_record, record_holds};
 ghost use Rattle.soundness.specs.Tally.{width};
 ghost use Rattle.cells.specs.Steps.{turn, turn_all, peak_at, starts_line, Lines, line_test, edges_test};
-ghost use Rattle.cells.specs.Steps.{CanChange, changed_part, Fitting, CellsCanChange, changed_cells, held_cells};
+ghost use Rattle.cells.specs.Steps.{CanChange, changed_word, Fitting, CellsCanChange, changed_cells, held_cells};
 
-use front::{Pair, Pos, Pos2};
+use front::{Pair, Pos};
 use limits::MAX_POSITION;
 
 // ---- the record's heights
-fn larger(x: Pos2, y: Pos2) -> Pos2
-    ensures { result.0 ≡ max x.0 y.0 }
-{
-    if x.at_least(y) { x } else { y }
+// Lines of cells: in a row the failures of class 1 stay, in a column those of class 2.
+#[derive(Clone, Copy)]
+enum Along {
+    Rows,
+    Columns,
 }
 
-// A pair, or with `flip` the pair with its positions exchanged: the front read by class 2.
-fn turned(p: Pair, flip: bool) -> Pair
-    ensures { result ≡ turn flip p }
+// A pair as rows read it; columns read it by class 2, its positions exchanged.
+fn turned(p: Pair, along: Along) -> Pair
+    ensures { result ≡ turn along p }
 {
-    if flip {
-        return Pair {
+    match along {
+        Along::Rows => p,
+        Along::Columns => Pair {
             p1: Pos(p.p2.0),
             p2: Pos(p.p1.0),
-        };
+        },
     }
-    p
 }
 
-// For each p1 the largest p2 of the record's pairs, or 0; with `flip` for each p2 the largest p1.
-fn heights(record: &[u8], flip: bool) -> [u8; MAX_POSITION + 1]
+// For rows, for each p1 the largest p2 of the record's pairs, or 0; for columns, for each p2 the
+// largest p1.
+fn heights(record: &[u8], along: Along) -> [u8; MAX_POSITION + 1]
     requires { T (is_record «record».now) }
-    ensures { (length result ≡ max_position + 1) × ((x : ℕ) → x < max_position + 1 → get_or result x 0 ≡ peak_at (turn_all flip (listed «record».now)) x) }
+    ensures { (x : ℕ) → x < max_position + 1 → get_or result x 0 ≡ peak_at (turn_all along (listed «record».now)) x }
 {
     let mut heights = [0u8; MAX_POSITION + 1];
-    let k = record::read_head(record).k;
-    let mut i: u8 = 0;
-    while i < k {
-        let p = turned(record::pair_at(record, i), flip);
+    for i in 0..record::read_head(record).k {
+        let p = turned(record::pair_at(record, i), along);
         let x = p.p1.0 as usize;
-        heights[x] = larger(Pos(heights[x]), p.p2).0;
-        i += 1;
+        heights[x] = Pos(heights[x]).max(p.p2).0;
     }
     heights
 }
 
 // ---- cells raised or lowered
-// `up` more and then `down` fewer in each of n cells from a place on: one loop for both calls,
-// without a branch.
-fn change_part(cells: &mut [u32], from: usize, n: usize, up: u32, down: u32)
-    requires { (from + n ≤ length cells.old) × ((i : ℕ) → i < n → CanChange up down (get_or cells.old (from + i) 0)) }
-    ensures { cells.new ≡ changed_part up down cells.old from n }
+// `up` more and then `down` fewer in each of some cells: one loop for both calls, without a branch.
+fn change_part(cells: &mut [u32], up: u32, down: u32)
+    requires { (i : ℕ) → i < length cells.old → CanChange up down (get_or cells.old i 0) }
+    ensures { cells.new ≡ map (changed_word up down) cells.old }
 {
-    let mut i = 0;
-    while i < n {
-        let k = from + i;
-        cells[k] = cells[k] + up - down;
-        i += 1;
+    for x in cells {
+        *x = *x + up - down;
     }
 }
 
@@ -72,19 +67,17 @@ pub fn change_rows(cells: &mut [u32], record: &[u8], n1: u8, n2: u8, up: u32, do
     ensures count { result ≡ held_cells «record».now n1 n2 }
     ensures slice { cells.new ≡ changed_cells up down «record».now n1 n2 cells.old }
 {
-    let top = heights(record, false);
+    let top = heights(record, Along::Rows);
     let w = n2 as usize + 1;
-    let mut y = Pos(0);
+    let mut y = Pos::<2>(0);
     let mut n = 0;
     let mut at = 0;
-    let mut x = n1 as usize + 1;
-    while 0 < x {
-        y = larger(y, Pos(top[x]));
+    for x in (1..=n1 as usize + 1).rev() {
+        y = y.max(Pos(top[x]));
         let k = y.0 as usize;
-        change_part(cells, at + (w - k), k, up, down);
+        change_part(&mut cells[at + (w - k)..at + w], up, down);
         n += k;
         at += w;
-        x -= 1;
     }
     n as u32
 }
@@ -110,29 +103,27 @@ fn starts(cells: &[u32], at: usize, n: usize, z: usize, step: usize) -> bool
 }
 
 // The same of each of some lines, `stride` apart, for the cells where the record holds: of the rows,
-// or with `flip` of the columns.
+// or of the columns.
 fn lines_start(
     cells: &[u32],
     record: &[u8],
-    flip: bool,
+    along: Along,
     lines: usize,
     n: usize,
     stride: usize,
     step: usize,
 ) -> bool
-    requires { Lines cells.now «record».now flip lines n stride step }
-    ensures { result ≡ every lines (line_test (turn_all flip (listed «record».now)) lines cells.now n stride step) }
+    requires { Lines cells.now «record».now along lines n stride step }
+    ensures { result ≡ every lines (line_test (turn_all along (listed «record».now)) lines cells.now n stride step) }
 {
-    let top = heights(record, flip);
+    let top = heights(record, along);
     let mut all = true;
-    let mut y = Pos(0);
+    let mut y = Pos::<2>(0);
     let mut at = 0;
-    let mut x = lines;
-    while 0 < x {
-        y = larger(y, Pos(top[x]));
-        all = all & starts(cells, at, n, y.0 as usize, step);
+    for x in (1..=lines).rev() {
+        y = y.max(Pos(top[x]));
+        all &= starts(cells, at, n, y.0 as usize, step);
         at += stride;
-        x -= 1;
     }
     all
 }
@@ -144,8 +135,8 @@ pub fn edges_ready(cells: &[u32], record: &[u8], n1: u8, n2: u8) -> bool
 {
     let h = n1 as usize + 1;
     let w = n2 as usize + 1;
-    let rows = lines_start(cells, record, false, h, w, w, 1);
-    rows & lines_start(cells, record, true, w, h, 1, w)
+    let rows = lines_start(cells, record, Along::Rows, h, w, w, 1);
+    rows & lines_start(cells, record, Along::Columns, w, h, 1, w)
 }
 
 // Whether the record holds with all working, or the last cell is below m.

@@ -1,4 +1,4 @@
--- The steps of `drain`, `next_level` and `flood`, over lists, and of a node that enters.
+-- The steps of `drain` and `flood`, over lists, and of a node that enters.
 use mathlib.Core.Path.{◌≡◌, refl, sym, ap, ◌∙◌, subst}
 use mathlib.Core.Logic.{◌⊎◌, inl, inr, ⊎_elim}
 use mathlib.Core.List.{List, [], ◌∷◌}
@@ -6,11 +6,12 @@ use Prim.Native.Nat.{ℕ, zero, suc, ◌+◌, ◌-◌, ◌≤◌, ◌<◌}
 use native.Mathlib.Omega.{arith}
 use lib.ListN.{length, get_or, set, length-set}
 use lib.Seq.{get_or-set_same, get_or-set_other}
-use Rattle.limits.specs.Limits.{max_position}
 use Rattle.laws.specs.Tests.{order, equal}
+use Rattle.front.specs.declared.pos.Pos.{Pos}
 use Rattle.chains.specs.Steps.{to_at, head_at, Linked}
+use Rattle.relax.specs.declared.Net.{Net}
 use Rattle.relax.specs.declared.Step.{Step}
-use Rattle.relax.specs.Steps.{Walked, Graph, graph_network, low, Relaxed, Ripe, Why, relaxed, piled, waits, left, Named, Work, Kept, NextLevel, Settled, Lent, Ready, Floodable, Lengths, start, moved}
+use Rattle.relax.specs.Steps.{Walked, Graph, graph_network, low, Relaxed, Ripe, Why, relaxed, piled, waits, left, Named, Work, Kept, NoneWaits, NextLevel, Settled, Lent, Ready, Floodable, Lengths, start}
 use Rattle.relax.proofs.Labels.{held-lower, held-t, pair-first}
 use Rattle.relax.proofs.Spreads.{low-less}
 
@@ -109,32 +110,9 @@ drained n w k =
       room = omega (arith, n.room, k.long, k.long-stack);
     }
 
--- ---- the level below
-pub record Seeking (wait : List ℕ) (l m : ℕ) : Type 0 where
-  -- below the level that is done
-  pub low : m < l
-  -- no level waits in between
-  pub none : (c : ℕ) → m < c → c < l → get_or wait c 0 ≡ 0
-  -- every level has a mark
-  pub long : max_position + 1 ≤ length wait
-
-pub sought : {wait : List ℕ} {l m : ℕ} → Seeking wait l m → (floor : ℕ) → floor < m → (get_or wait m 0 ≡ 0 → ⊥) → NextLevel wait l floor m
-sought s floor h n = record { none = λ c b k. s.none c (omega arith) k; found = λ _. (h, s.low, n) }
-
-pub sought-none : {wait : List ℕ} {l m : ℕ} → Seeking wait l m → (floor : ℕ) → m ≤ floor → NextLevel wait l floor 0
-sought-none s floor h = record { none = λ c b k. s.none c (omega arith) k; found = λ z. absurd (omega arith) }
-
-pub seek-on : {wait : List ℕ} {l m : ℕ} → Seeking wait l m → 0 < m → get_or wait m 0 ≡ 0 → Seeking wait l (m - 1)
-seek-on {wait} {l} {m} s h e =
-    record {
-      low = omega (arith, s.low);
-      none = λ c b k. ⊎_elim (λ le. let q : c ≡ m = omega arith in ap (λ x. get_or wait x 0) q ∙ e) (λ lt. s.none c lt k) (order c m);
-      long = s.long;
-    }
-
 module _ {f : Graph} {a l : ℕ} {d wait : List ℕ} (w : Work f a l d [] wait 0 0 0) where
-  pub settle : {m : ℕ} → NextLevel wait l (get_or d f.source 0) m → m ≡ 0 → a < start f → Settled f a d wait
-  settle {m} n z b =
+  pub settle : NoneWaits wait l (get_or d f.source 0) → a < start f → Settled f a d wait
+  settle n b =
       record {
         laid = w.laid;
         long = w.long;
@@ -151,23 +129,23 @@ module _ {f : Graph} {a l : ℕ} {d wait : List ℕ} (w : Work f a l d [] wait 0
       go j (relaxed x) = x
       go j (piled k h e) = absurd (omega arith)
       go j (waits x) =
-          ⊎_elim (λ le. omega arith) (λ lt. absurd (x.flag (n.none (get_or d (to_at f.arcs j) 0) (omega arith) x.below))) (order (get_or d (to_at f.arcs j) 0) (get_or d f.source 0))
+          ⊎_elim (λ le. omega arith) (λ lt. absurd (x.flag (n (get_or d (to_at f.arcs j) 0) lt x.below))) (order (get_or d (to_at f.arcs j) 0) (get_or d f.source 0))
       go j (left e h) = absurd (omega arith)
 
-  module _ {m : ℕ} (n : NextLevel wait l (get_or d f.source 0) m) (h : 0 < m) (p : ℕ) (is : p ≡ m) (y : ℕ) (is_y : get_or wait m 0 ≡ suc y) where
+  module _ {m : ℕ} (n : NextLevel wait l (get_or d f.source 0) m) (y : ℕ) (is_y : get_or wait m 0 ≡ suc y) where
     named : Named f d m y
-    named = w.marked m y h is_y
+    named = w.marked m y (omega (arith, n.above)) is_y
 
-    descend : Work f a m d (y ∷ []) (set wait p 0) 1 0 0
+    descend : Work f a m d (y ∷ []) (set wait m 0) 1 0 0
     descend =
-        rw is (record {
+        record {
           laid = w.laid;
           long = w.long;
           short = w.short;
           long-wait = rw length-set w.long-wait;
           held = w.held;
           early = w.early;
-          some = h;
+          some = omega (arith, n.above);
           high = omega (arith, named.below);
           at-t = w.at-t;
           fits = omega (arith, low-less m y d (omega (arith, named.node, w.long)) (omega (arith, named.label)));
@@ -175,7 +153,7 @@ module _ {f : Graph} {a l : ℕ} {d wait : List ℕ} (w : Work f a l d [] wait 0
           going = λ z. absurd (omega arith);
           marked = λ c x pos z. w.marked c x pos (kept c x z);
           why = λ j b e. go j b (w.why j b e);
-        })
+        }
       where
         kept : (c x : ℕ) → get_or (set wait m 0) c 0 ≡ suc x → get_or wait c 0 ≡ suc x
         kept c x z =
@@ -197,7 +175,7 @@ module _ {f : Graph} {a l : ℕ} {d wait : List ℕ} (w : Work f a l d [] wait 0
             ⊎_elim
             (λ e. piled 0 (omega arith) (w.laid.only y (to_at f.arcs j) named.node (w.laid.ends j (omega arith)).1 (named.full ∙ sym (x.full ∙ e)) (omega (arith, named.full, named.below))))
             (λ ne. waits (record { below = omega arith; full = x.full; flag = λ q. x.flag (sym (get_or-set_other wait m z 0 0 ne) ∙ q) })) (equal z m))
-            (λ lt. absurd (x.flag (n.none z (omega (arith, n.found h)) x.below))) (order z m)
+            (λ lt. absurd (x.flag (n.last z lt x.below))) (order z m)
 
 pub record Flooding (f : Graph) (capacities links : List ℕ) (a : ℕ) (d₀ stack₀ wait₀ d stack wait : List ℕ) (l v : ℕ) : Type 0 where
   -- the labels, with v alone on the stack
@@ -215,12 +193,12 @@ pub joined : {a b c d e g h i j : List ℕ} → Lengths a b c d e g → Lengths 
 joined x y = record { labels = y.labels ∙ x.labels; pile = y.pile ∙ x.pile; levels = y.levels ∙ x.levels }
 
 pub flooded : {f : Graph} {capacities links : List ℕ} {a : ℕ} {d₀ stack₀ wait₀ d stack wait : List ℕ} {l v : ℕ} → Flooding f capacities links a d₀ stack₀ wait₀ d stack wait l v
-    → {d₁ stack₁ wait₁ : List ℕ} → Work f a l d₁ [] wait₁ 0 0 0 → Lengths d stack wait d₁ stack₁ wait₁ → {m : ℕ} → NextLevel wait₁ l (get_or d₁ f.source 0) m → 0 < m → (p : ℕ) → p ≡ m → (y : ℕ) → get_or wait₁ m 0 ≡ suc y
-    → Flooding f capacities links a d₀ stack₀ wait₀ d₁ stack₁ (set wait₁ p 0) m y
-flooded n {d₁} {stack₁} {wait₁} w k x h p is y is_y =
+    → {d₁ stack₁ wait₁ : List ℕ} → Work f a l d₁ [] wait₁ 0 0 0 → Lengths d stack wait d₁ stack₁ wait₁ → {m : ℕ} → NextLevel wait₁ l (get_or d₁ f.source 0) m → (y : ℕ) → get_or wait₁ m 0 ≡ suc y
+    → Flooding f capacities links a d₀ stack₀ wait₀ d₁ stack₁ (set wait₁ m 0) m y
+flooded n {d₁} {stack₁} {wait₁} w k {m} x y is_y =
     record {
-      work = descend w x h p is y is_y;
-      lengths = joined n.lengths (record { labels = k.labels; pile = k.pile; levels = length-set wait₁ p 0 ∙ k.levels });
+      work = descend w x y is_y;
+      lengths = joined n.lengths (record { labels = k.labels; pile = k.pile; levels = length-set wait₁ m 0 ∙ k.levels });
       lent = n.lent;
       room = omega (arith, n.room, k.labels, k.pile);
       begun = n.begun;
@@ -319,23 +297,16 @@ module _ {f : Graph} {a : ℕ} {d wait : List ℕ} (s : Settled f (suc a) d wait
           why = λ j b e. ⊎_elim (λ q. relaxed q) (λ i. piled 0 (omega arith) i) (by j b e);
         }
 
-pub unset : (stack : List ℕ) (v : ℕ) {d wait d₁ stack₁ wait₁ : List ℕ} → Lengths d (set stack 0 v) wait d₁ stack₁ wait₁ → Lengths d stack wait d₁ stack₁ wait₁
-unset stack v x = record { labels = x.labels; pile = x.pile ∙ length-set stack 0 v; levels = x.levels }
-
--- the same with another stack of that length
-pub restack : {f : Graph} {capacities links : List ℕ} {at : Step} {d stack wait : List ℕ} (v : ℕ) → Floodable f capacities links at d stack wait → Floodable f capacities links at d (set stack 0 v) wait
-restack {stack = stack} v b = record { lent = b.lent; source = b.source; work = b.work; some = b.some; begun = b.begun; room = omega (arith, b.room, length-set stack 0 v) }
-
 -- a node is popped: `spread` may go on from it
-pub popped : {f : Graph} {capacities links : List ℕ} (at : Step) {d₀ stack₀ wait₀ : List ℕ} → Floodable f capacities links at d₀ stack₀ wait₀
-    → {e stack₁ wait₁ d stack wait : List ℕ} (top : ℕ) → Draining f capacities links (at.x.0 - 1) at.level.0 e stack₁ wait₁ d stack wait top → 0 < top
-    → Ready f capacities links (moved at at.x.0 at.level.0 (get_or stack (top - 1) 0) (top - 1)) d stack wait
-popped at b {stack = stack} top n h =
+pub popped : {f : Graph} {net : Net} {at : Step} {d₀ stack₀ wait₀ : List ℕ} → Floodable f net at d₀ stack₀ wait₀
+    → {e stack₁ wait₁ d stack wait : List ℕ} {top : ℕ} → Draining f net.capacities.now net.links.now (at.x.0 - 1) at.level.0 e stack₁ wait₁ d stack wait top → 0 < top
+    → Ready f net (record at { node = get_or stack (top - 1) 0; top = top - 1 }) d stack wait
+popped b {stack = stack} {top = top} n h =
     let p = pop n.lent.chains n.lent.long n.work (top - 1) (omega arith) (get_or stack (top - 1) 0) refl in
     record { lent = n.lent; work = p.1; some = b.some; node = p.0; room = n.room }
 
 -- a level is next: `drain` may go on from its node
-pub leveled : {f : Graph} {capacities links : List ℕ} (at : Step) {d₀ stack₀ wait₀ : List ℕ} → Floodable f capacities links at d₀ stack₀ wait₀
-    → {e stack₁ wait₁ d stack wait : List ℕ} (l v : ℕ) → Flooding f capacities links (at.x.0 - 1) e stack₁ wait₁ d stack wait l v
-    → Floodable f capacities links (moved at at.x.0 l v 0) d stack wait
-leveled at b l v n = record { lent = n.lent; source = b.source; work = n.work; some = b.some; begun = b.begun; room = n.room }
+pub leveled : {f : Graph} {net : Net} {begin : Step} {d₀ stack₀ wait₀ : List ℕ} → Floodable f net begin d₀ stack₀ wait₀
+    → {e stack₁ wait₁ d stack wait : List ℕ} {level : Pos 2} {v : ℕ} → Flooding f net.capacities.now net.links.now (begin.x.0 - 1) e stack₁ wait₁ d stack wait level.0 v
+    → Floodable f net (record begin { level = level; node = v; top = 0 }) d stack wait
+leveled b n = record { lent = n.lent; source = b.source; work = n.work; some = b.some; begun = b.begun; room = n.room }

@@ -6,6 +6,7 @@ use Rattle.front.specs.Pair.{pair_of}
 use Rattle.parts.specs.Study.{Arc}
 use Rattle.network.specs.Walk.{Network, Walk, pair_on}
 use Rattle.chains.specs.Steps.{from_at, to_at, head_at, Linked, max_elements, max_split_arcs}
+use Rattle.relax.specs.declared.Net.{Net}
 use Rattle.relax.specs.declared.Step.{Step}
 
 -- ---- LABELS: what a number at each node says of the walks from it to the target, while the first a class 1 positions are shut
@@ -49,10 +50,6 @@ pub record Graph : Type 0 where
   pub n1 : ℕ
   -- members of class 2
   pub n2 : ℕ
-
--- the same search at another x, level, node and height of the stack
-abbrev pub moved : Step → ℕ → ℕ → ℕ → ℕ → Step
-moved at x l v n = record { source = at.source; x = record { 0 = x }; level = record { 0 = l }; node = v; top = n }
 
 -- the network that it is
 abbrev pub graph_network : Graph → Network
@@ -180,12 +177,16 @@ pub record Work (f : Graph) (a l : ℕ) (d stack wait : List ℕ) (top v i : ℕ
   -- every arc into a node that is in is seen to
   pub why : (j : ℕ) → j < length f.arcs → a < get_or f.entry (to_at f.arcs j) 0 → Why f l d stack wait top v i j
 
--- the largest level that waits, between floor and l, or 0
-pub record NextLevel (wait : List ℕ) (l floor r : ℕ) : Type 0 where
-  -- no level waits above it
-  pub none : (c : ℕ) → max r floor < c → c < l → get_or wait c 0 ≡ 0
-  -- it is above the floor, below l, and waits
-  pub found : 0 < r → (floor < r) × (r < l) × (get_or wait r 0 ≡ 0 → ⊥)
+-- no level between floor and l waits
+abbrev pub NoneWaits : List ℕ → ℕ → ℕ → Type 0
+NoneWaits wait l floor = (c : ℕ) → floor < c → c < l → get_or wait c 0 ≡ 0
+
+-- the largest level that waits, between floor and l
+pub record NextLevel (wait : List ℕ) (l floor m : ℕ) : Type 0 where
+  pub above : floor < m
+  pub below : m < l
+  pub waiting : get_or wait m 0 ≡ 0 → ⊥
+  pub last : NoneWaits wait l m
 
 -- where the sweep begins: s and t are in below it
 abbrev pub start : Graph → ℕ
@@ -236,11 +237,11 @@ pub record Lent (f : Graph) (capacities links : List ℕ) : Type 0 where
   pub chains : Linked (length capacities / 2) f.arcs links
 
 -- what `spread` is given: a node at work at the head of its chain
-pub record Ready (f : Graph) (capacities links : List ℕ) (at : Step) (d stack wait : List ℕ) : Type 0 where
+pub record Ready (f : Graph) (net : Net) (at : Step) (d stack wait : List ℕ) : Type 0 where
   -- what the search is given
-  pub lent : Lent f capacities links
+  pub lent : Lent f net.capacities.now net.links.now
   -- the labels
-  pub work : Work f (at.x.0 - 1) at.level.0 d stack wait at.top at.node (head_at links at.node)
+  pub work : Work f (at.x.0 - 1) at.level.0 d stack wait at.top at.node (head_at net.links.now at.node)
   -- x is a position
   pub some : 0 < at.x.0
   -- the node at work is one
@@ -249,9 +250,9 @@ pub record Ready (f : Graph) (capacities links : List ℕ) (at : Step) (d stack 
   pub room : length d ≤ length stack
 
 -- what `drain` and `flood` are given: a node with the level for a label
-pub record Floodable (f : Graph) (capacities links : List ℕ) (at : Step) (d stack wait : List ℕ) : Type 0 where
+pub record Floodable (f : Graph) (net : Net) (at : Step) (d stack wait : List ℕ) : Type 0 where
   -- what the search is given
-  pub lent : Lent f capacities links
+  pub lent : Lent f net.capacities.now net.links.now
   -- its source
   pub source : at.source ≡ f.source
   -- the labels, with the node alone on the stack

@@ -1,11 +1,17 @@
-// Labels relaxed along the arcs into a node. Two slices hold the network: `capacities` those of
-// class 1 of all nodes and then those of class 2, `links` the chains of arcs.
+// Labels relaxed along the arcs into a node.
 #![tactic(auto)]
 
 ghost use Rattle.std.specs.Prelude.{◌≡◌, ◌-◌};
-ghost use Rattle.relax.specs.Steps.{Graph, moved, mark_at, growth, Work, Kept, Ready};
+ghost use Rattle.relax.specs.Steps.{Graph, mark_at, growth, Work, Kept, Ready};
 
 use front::{Pos, Pos1, Pos2};
+// The network that is searched: the capacities of class 1 of all nodes and then those of class 2, and
+// the chains of arcs.
+#[derive(Clone, Copy)]
+pub struct Net<'a> {
+    pub capacities: &'a [u8],
+    pub links: &'a [u16],
+}
 
 // Where a spread stands: the source; x, one more than the class 1 failures; the level that spreads,
 // the node at work and the height of the stack.
@@ -16,19 +22,6 @@ pub struct Step {
     pub level: Pos2,
     pub node: u16,
     pub top: usize,
-}
-
-// The same search at another x, level, node and height of the stack.
-pub fn step_to(at: Step, x: Pos1, level: Pos2, node: u16, top: usize) -> Step
-    ensures { result ≡ moved at x.0 level.0 node top }
-{
-    Step {
-        source: at.source,
-        x: x,
-        level: level,
-        node: node,
-        top: top,
-    }
 }
 
 // Where a raise to c leaves its mark: at c, where it waits, else in a place that nothing reads.
@@ -52,24 +45,18 @@ fn growth(level: Pos2, c: Pos2, x: Pos1, entry: Pos1) -> usize
 }
 
 // The labels of the nodes with an arc into the node at work, raised to what its level gives them.
-pub fn spread(
-    capacities: &[u8],
-    links: &[u16],
-    at: Step,
-    label: &mut [u8],
-    stack: &mut [u16],
-    wait: &mut [u16],
-) -> usize
-    requires { (f : Graph) × Ready f capacities.now links.now at label.old stack.old wait.old }
-    ensures work { (f : Graph)
-        → Ready f capacities.now links.now at label.old stack.old wait.old
+pub fn spread(net: Net, at: Step, label: &mut [u8], stack: &mut [u16], wait: &mut [u16]) -> usize
+    requires { (f : Graph) × Ready f net at label.old stack.old wait.old }
+    ensures work { (f : Graph) → Ready f net.entry at label.old stack.old wait.old
         → Work f (at.x.0 - 1) at.level.0 label.new stack.new wait.new result at.node 0 }
     ensures kept { Kept at.level.0 label.old stack.old wait.old at.top label.new
         stack.new wait.new result }
 {
+    let Net { capacities, links } = net;
     let size = capacities.len() / 2;
     let mut top = at.top;
     let mut i = links[at.node as usize] as usize;
+    // a while: each arc names the next of its chain
     while 0 < i {
         let p = size + 2 * (i - 1);
         i = links[p + 1] as usize;

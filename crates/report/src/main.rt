@@ -4,104 +4,93 @@
 mod output;
 
 ghost use Rattle.std.specs.Prelude.{◌≡◌, true, ◌≤◌, T, length};
-ghost use Rattle.slices.specs.Steps.{placed};
 ghost use Rattle.answer.specs.Outcome.{success, refused, number_of, header_values, opened, succeeds};
 ghost use Rattle.record.specs.Record.{is_record};
 ghost use Rattle.tally.specs.Calls.{add_out};
 ghost use Rattle.lines.specs.Text.{front_line};
-ghost use Rattle.lines.specs.Steps.{line_room, round_tally, Due, NextLine};
+ghost use Rattle.lines.specs.Steps.{round_tally, Due, NextLine};
 ghost use Rattle.lines.specs.Report.{round_answer, round_line, report_opens, report_lines, line_at, SentOf};
 
 use answer::{Header, Refusal};
 use buffer::LONGEST;
-use lines::LINE;
+use lines::Line;
 use output::Sent;
 use soundness::LARGEST;
 use std::io::Read;
 
-// A line in the buffer, and whether another follows.
+// A line of the report, and whether another follows it. No Option: there is a line in both cases, and
+// the loop's test is the flag.
 #[derive(Clone, Copy)]
-struct Line {
-    length: usize,
+struct Row {
+    line: Line,
     more: bool,
 }
 
 // The line of a front, which is added to the tally.
-fn add_front(round: usize, record: &[u8], tally: &mut [u32], out: &mut [u8]) -> usize
-    requires { (line_room ≤ length out.old) × T (is_record «record».now) }
-    ensures end { result ≡ length (front_line round «record».now) }
-    ensures slice { out.new ≡ placed 0 (front_line round «record».now) out.old }
+fn add_front(round: usize, record: &[u8], tally: &mut [u32]) -> Line
+    requires { T (is_record «record».now) }
+    ensures line { result.bytes ≡ front_line round «record».now }
     ensures tally { tally.new ≡ add_out «record».now tally.old }
 {
-    tally::add(record, tally);
-    lines::front_line(round as u64, record, out)
+    let _ = tally::add(record, tally);
+    lines::front_line(round as u64, record)
 }
 
 // The line of a round.
-fn round_line(file: &[u8], round: usize, tally: &mut [u32], out: &mut [u8]) -> Line
-    requires { line_room ≤ length out.old }
-    ensures told { (result.length ≡ length (round_line file.now round)) × (result.more ≡ succeeds (round_answer file.now round)) }
-    ensures slice { out.new ≡ placed 0 (round_line file.now round) out.old }
+fn round_line(file: &[u8], round: usize, tally: &mut [u32]) -> Row
+    ensures told { (result.line.bytes ≡ round_line file.now round) × (result.more ≡ succeeds (round_answer file.now round)) }
     ensures tally { tally.new ≡ round_tally file.now round tally.old }
 {
-    let mut record = [0u8; LONGEST];
+    let mut record = [0; LONGEST];
     match search::search(file, round, &mut record) {
-        Err(r) => Line {
-            length: lines::refused_line(u32::from(r) as u64, out),
+        Err(r) => Row {
+            line: lines::refused_line(u32::from(r) as u64),
             more: false,
         },
-        Ok(n) => Line {
-            length: add_front(round, &record[..n], tally, out),
+        Ok(n) => Row {
+            line: add_front(round, &record[..n], tally),
             more: true,
         },
     }
 }
 
 // Line i of an open study: its sizes, then its rounds, then its counts.
-fn study_line(file: &[u8], h: Header, i: usize, tally: &mut [u32], out: &mut [u8]) -> Line
-    requires { (line_room ≤ length out.old) × (report_opens file.now ≡ success (header_values h)) × Due file.now (header_values h) i tally.old }
-    ensures end { result.length ≡ length (line_at file.now i) }
-    ensures slice { out.new ≡ placed 0 (line_at file.now i) out.old }
+fn study_line(file: &[u8], h: Header, i: usize, tally: &mut [u32]) -> Row
+    requires { (report_opens file.now ≡ success (header_values h)) × Due file.now (header_values h) i tally.old }
+    ensures line { result.line.bytes ≡ line_at file.now i }
     ensures next { NextLine file.now (header_values h) i result.more tally.new }
 {
     if i == 0 {
-        return Line {
-            length: lines::sizes_line(h.n1 as u64, h.n2 as u64, h.rounds as u64, out),
+        return Row {
+            line: lines::sizes_line(h.n1 as u64, h.n2 as u64, h.rounds as u64),
             more: true,
         };
     }
     let round = i - 1;
     if round < h.rounds {
-        return round_line(file, round, tally, out);
+        return round_line(file, round, tally);
     }
     let l1 = round - h.rounds;
-    Line {
-        length: lines::count_line(l1, tally, out),
+    Row {
+        line: lines::count_line(l1, tally),
         more: l1 < h.n1,
     }
 }
 
 // The report on an open study, line after line up to the first write that fails.
-fn report_study(
-    rt: &impl Print,
-    file: &[u8],
-    h: Header,
-    begun: Sent,
-    tally: &mut [u32],
-    out: &mut [u8],
-) -> Sent
-    requires line_room_in_bounds { (line_room ≤ length out.old) × (report_opens file.now ≡ success (header_values h)) × Due file.now (header_values h) 0 tally.old }
+fn report_study(rt: &impl Print, file: &[u8], h: Header, begun: Sent, tally: &mut [u32]) -> Sent
+    requires due { (report_opens file.now ≡ success (header_values h)) × Due file.now (header_values h) 0 tally.old }
     requires begun { (begun.lines ≡ 0) × (begun.whole ≡ true) }
     ensures { SentOf (report_lines file.now) result.lines result.whole }
 {
     let mut sent = begun;
     let mut more = true;
+    // A while: a search tells only when it is made whether another line follows.
     while more {
         let i = sent.lines();
-        let line = study_line(file, h, i, tally, out);
-        let n = line.length;
-        sent = output::write_line(rt, file, sent, &out[..n]);
-        more = line.more & sent.whole();
+        let row = study_line(file, h, i, tally);
+        sent = output::write_line(rt, file, sent, row.line.as_bytes());
+        more = row.more & sent.whole();
     }
     sent
 }
@@ -125,9 +114,8 @@ fn report_refusal(rt: &impl Print, file: &[u8], refusal: Refusal, begun: Sent) -
     requires begun { (begun.lines ≡ 0) × (begun.whole ≡ true) }
     ensures { SentOf (report_lines file.now) result.lines result.whole }
 {
-    let mut out = [0u8; LINE];
-    let n = lines::refused_line(u32::from(refusal) as u64, &mut out);
-    output::write_line(rt, file, begun, &out[..n])
+    let line = lines::refused_line(u32::from(refusal) as u64);
+    output::write_line(rt, file, begun, line.as_bytes())
 }
 
 // The report on a file.
@@ -138,10 +126,9 @@ fn report(rt: &impl Print, file: &[u8]) -> Sent
     match open_input(file) {
         Err(r) => report_refusal(rt, file, r, begun),
         Ok(h) => {
-            let mut tally = [0u32; LARGEST];
-            let mut out = [0u8; LINE];
-            tally::new(h.n1 as u32, h.n2 as u32, &mut tally);
-            report_study(rt, file, h, begun, &mut tally, &mut out)
+            let mut tally = [0; LARGEST];
+            let _ = tally::new(h.n1 as u32, h.n2 as u32, &mut tally);
+            report_study(rt, file, h, begun, &mut tally)
         }
     }
 }
@@ -151,6 +138,7 @@ fn read_full(input: &mut impl Read, space: &mut [u8]) -> usize
     ensures { result ≤ length space.new }
 {
     let mut done = 0;
+    // A while: a read gives as many bytes as it likes, and std's `read_exact` tells no number at an end.
     while done < space.len() {
         let n = input.read(&mut space[done..]).unwrap_or(0);
         if n == 0 {
@@ -162,7 +150,7 @@ fn read_full(input: &mut impl Read, space: &mut [u8]) -> usize
 }
 
 fn main(rt: HostRuntime) {
-    let mut space = [0u8; MAX_INPUT + 1];
+    let mut space = [0; MAX_INPUT + 1];
     let n = read_full(&mut rt.stdin(), &mut space);
     report(&rt, &space[..n]);
 }

@@ -1,11 +1,10 @@
 -- A round of a study: its orders by element may be searched, and what is found is the record of its front.
 use mathlib.Core.Path.{◌≡◌, sym, ap, ap₂, ◌∙◌, subst}
 use mathlib.Core.List.{List, map}
-use Prim.Native.Nat.{ℕ, ◌+◌, ◌-◌, ◌*◌, ◌≤◌}
-use native.Mathlib.Nat.{sub-zero}
+use Prim.Native.Nat.{ℕ, ◌+◌, ◌*◌, ◌≤◌}
 use native.Mathlib.Omega.{arith}
 use lib.Dec.{T}
-use lib.ListN.{length, take}
+use lib.ListN.{length}
 use Rattle.limits.specs.Limits.{arc_count, max_class}
 use Rattle.laws.specs.Members.{◌∈◌}
 use Rattle.laws.specs.Tests.{T_and}
@@ -27,11 +26,8 @@ use Rattle.chains.specs.Steps.{split_entries}
 use Rattle.chains.proofs.Entries.{entries-split, split-few}
 use Rattle.members.specs.Steps.{ByPlace, elements_in}
 use Rattle.members.proofs.Tables.{good-places}
-use Rattle.search.specs.Steps.{Searchable, RoundGiven}
-
--- the first n of a list, as the code has them
-pub taken : (n : ℕ) (l p q : List ℕ) → take n l ≡ p → p ≡ q → take (n - 0) l ≡ q
-taken n l p q e f = ap (λ k. take k l) (sub-zero n) ∙ e ∙ f
+use Rattle.search.specs.declared.Task.{Task}
+use Rattle.search.specs.Steps.{task_arcs, task_front, Searchable, RoundGiven}
 
 module _ {st : Study} {r : ℕ} {nodes arcs o1 o2 : List ℕ} {s t : ℕ} (g : RoundGiven st r nodes arcs o1 o2 s t) where
   abbrev all : List ℕ
@@ -95,36 +91,43 @@ module _ {st : Study} {r : ℕ} {nodes arcs o1 o2 : List ℕ} {s t : ℕ} (g : R
         count-append 2 st.classes kinds,
       )
 
-  -- as the code has them
-  module _ (a b : List ℕ) (is-a : a ≡ round_order1 st r) (is_b : b ≡ round_order2 st r) where
-    pub may-search : Searchable arcs (length nodes) a b s t
-    may-search =
-        record {
-          few = g.long;
-          small = omega (arith, ap length g.nodes-are, g.within.nodes-most);
-          ends = λ x m.
-              let i : x ∈ st.entries = subst (λ l. x ∈ l) (sym g.entries-are) m in
-              (omega (arith, ap length g.nodes-are, g.within.from_in x i), omega (arith, ap length g.nodes-are, g.within.to_in x i));
-          many = omega (arith, ap length arcs-are, few-arcs, ap length is-a, ap length is_b, size1, size2, ap length g.entries-are, entries-length arcs);
-          small1 = omega (arith, ap length is-a, size1, g.within.size1-most);
-          small2 = omega (arith, ap length is_b, size2, g.within.size2-most);
-          ordered = rw (arcs-are, is-a, is_b, ← g.source_is, ← g.target_is, many-are) (ordered st g.within r g.good);
-        }
+-- as the code has them
+module _ {st : Study} {r : ℕ} {nodes o1 o2 : List ℕ} (task : Task) (g : RoundGiven st r nodes task.arcs.now o1 o2 task.source task.target) (is-nodes : task.nodes ≡ length nodes)
+    (is-a : task.order1.now ≡ round_order1 st r) (is_b : task.order2.now ≡ round_order2 st r) where
+  its-arcs : task_arcs task ≡ split_arcs (length st.classes) st.entries
+  its-arcs = ap (λ n. split_entries n 0 (entries_from task.arcs.now)) is-nodes ∙ arcs-are g
 
-    pub found : front_bytes (length a) (length b) (route_pairs (order_network (split_entries (length nodes) 0 (entries_from arcs)) a b s t))
-        ≡ record_bytes (study_size1 st) (study_size2 st) (round_front st r)
-    found =
-        ap (λ l. front_of l a b s t) arcs-are ∙ ap (λ o. front_of split o b s t) is-a ∙ ap (λ o. front_of split (round_order1 st r) o s t) is_b
-        ∙ ap (λ n. front_of split (round_order1 st r) (round_order2 st r) n t) (sym g.source_is)
-        ∙ ap (λ n. front_of split (round_order1 st r) (round_order2 st r) st.source n) (sym g.target_is)
-        ∙ (ap₂ (λ m n. record_bytes m n (front-found)) size1 size2 ∙ ap (record_bytes (study_size1 st) (study_size2 st)) (search-front st g.within r g.good))
-      where
-        split : List Arc
-        split = split_arcs (length st.classes) st.entries
+  its-elements : task.nodes + arc_count task.arcs.now ≡ length (study_elements st)
+  its-elements = omega (arith, is-nodes, many-are g)
 
-        front_of : List Arc → List ℕ → List ℕ → ℕ → ℕ → List ℕ
-        front_of l o p m n = front_bytes (length o) (length p) (route_pairs (order_network l o p m n))
+  pub may-search : Searchable task
+  may-search =
+      record {
+        few = g.long;
+        small = omega (arith, is-nodes, ap length g.nodes-are, g.within.nodes-most);
+        ends = λ x m.
+            let i : x ∈ st.entries = subst (λ l. x ∈ l) (sym g.entries-are) m in
+            (omega (arith, is-nodes, ap length g.nodes-are, g.within.from_in x i), omega (arith, is-nodes, ap length g.nodes-are, g.within.to_in x i));
+        many = omega (arith, ap length its-arcs, few-arcs g, ap length is-a, ap length is_b, size1 g, size2 g, ap length g.entries-are, entries-length task.arcs.now);
+        small1 = omega (arith, ap length is-a, size1 g, g.within.size1-most);
+        small2 = omega (arith, ap length is_b, size2 g, g.within.size2-most);
+        ordered = rw (its-arcs, is-a, is_b, ← g.source_is, ← g.target_is, its-elements) (ordered st g.within r g.good);
+      }
 
-        front-found : List Pair
-        front-found = front (length (round_order1 st r)) (length (round_order2 st r))
-            (route_pairs (order_network split (round_order1 st r) (round_order2 st r) st.source st.target))
+  pub found : task_front task ≡ record_bytes (study_size1 st) (study_size2 st) (round_front st r)
+  found =
+      ap (λ l. front_of l task.order1.now task.order2.now task.source task.target) its-arcs ∙ ap (λ o. front_of split o task.order2.now task.source task.target) is-a
+      ∙ ap (λ o. front_of split (round_order1 st r) o task.source task.target) is_b
+      ∙ ap (λ n. front_of split (round_order1 st r) (round_order2 st r) n task.target) (sym g.source_is)
+      ∙ ap (λ n. front_of split (round_order1 st r) (round_order2 st r) st.source n) (sym g.target_is)
+      ∙ (ap₂ (λ m n. record_bytes m n front-found) (size1 g) (size2 g) ∙ ap (record_bytes (study_size1 st) (study_size2 st)) (search-front st g.within r g.good))
+    where
+      split : List Arc
+      split = split_arcs (length st.classes) st.entries
+
+      front_of : List Arc → List ℕ → List ℕ → ℕ → ℕ → List ℕ
+      front_of l o p m n = front_bytes (length o) (length p) (route_pairs (order_network l o p m n))
+
+      front-found : List Pair
+      front-found = front (length (round_order1 st r)) (length (round_order2 st r))
+          (route_pairs (order_network split (round_order1 st r) (round_order2 st r) st.source st.target))

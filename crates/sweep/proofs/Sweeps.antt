@@ -6,14 +6,13 @@ use mathlib.Core.List.{List, [], ◌∷◌, ◌++◌}
 use Prim.Native.Nat.{ℕ, suc, ◌≤◌, ◌<◌}
 use native.Mathlib.Omega.{arith}
 use lib.Dec.{T, ltb, ltb→lt, lt→ltb}
-use lib.ListN.{length}
 use Rattle.laws.specs.Tests.{T-ext, T_and, T-or, order}
 use Rattle.front.specs.Pair.{pair_of, holds_at}
 use Rattle.front.specs.Front.{holds, Within, AllWithin}
 use Rattle.front.proofs.Pairs.{holds-is}
 use Rattle.front.proofs.Fronts.{holds-fewer}
-use Rattle.record.specs.Record.{record_size1, record_size2, listed, front_bytes, longest}
-use Rattle.buffer.specs.Steps.{record_in, Puttable}
+use Rattle.record.specs.Record.{record_size1, record_size2, listed, front_bytes}
+use Rattle.buffer.specs.Steps.{Puttable}
 use Rattle.buffer.proofs.Collects.{Collects, collects-puttable, collects-more, collects-all}
 use Rattle.network.specs.Walk.{route_pairs}
 use Rattle.relax.specs.Steps.{Graph, graph_network}
@@ -42,11 +41,10 @@ module _ (f : Graph) where
       pub same-height : y ≤ last → Collects f.n1 f.n2 (whole f) (held_below f a) a buf
       same-height h =
           record {
-            long = c.long;
             small1 = c.small1;
             small2 = c.small2;
             done = c.done;
-            begins = c.begins;
+            is = c.is;
             form = c.form;
             holding = λ u v. T-ext (whole f u v) (holds c.done u v || held_below f a u v) (
               λ t. (T-or (holds c.done u v) (held_below f a u v)).1 (at u v t),
@@ -71,10 +69,10 @@ module _ (f : Graph) where
         pub rise-puttable : Puttable buf (pair_of x y)
         rise-puttable = collects-puttable c (pair_of x y) w (omega arith)
 
-        pub rise-height : {buf' : List ℕ} → length buf' ≡ longest → record_in buf' ≡ front_bytes (record_size1 buf) (record_size2 buf) (listed (record_in buf) ++ (pair_of x y ∷ []))
+        pub rise-height : {buf' : List ℕ} → buf' ≡ front_bytes (record_size1 buf) (record_size2 buf) (listed buf ++ (pair_of x y ∷ []))
             → Collects f.n1 f.n2 (whole f) (held_below f a) a buf'
-        rise-height l e =
-            collects-more c (pair_of x y) w (omega arith) l e
+        rise-height e =
+            collects-more c (pair_of x y) w (omega arith) e
             (λ u v. T-ext (held_below f x u v) (holds_at (pair_of x y) u v || held_below f a u v) (
               λ t. (T-or (holds_at (pair_of x y) u v) (held_below f a u v)).1 (at u v ((held-below-is x u v).0 t)),
               λ t. (held-below-is x u v).1 (⊎_elim (from u v) (λ k. let q = (held-below-is a u v).0 k in (omega (arith, q.0), q.1)) ((T-or (holds_at (pair_of x y) u v) (held_below f a u v)).0 t)),
@@ -91,7 +89,7 @@ module _ (f : Graph) where
             from u v t = let k = (holds-is (pair_of x y) u v).0 t in (k.0, holds-fewer (route_pairs (graph_network f)) u a v v (omega (arith, k.0)) (omega arith) ((now v).1 k.1))
 
   -- nothing lies below 0: the record is the front
-  pub all-collected : {buf : List ℕ} → Collects f.n1 f.n2 (whole f) (held_below f 0) 0 buf → AllWithin f.n1 f.n2 (route_pairs (graph_network f)) → record_in buf ≡ front_bytes f.n1 f.n2 (route_pairs (graph_network f))
+  pub all-collected : {buf : List ℕ} → Collects f.n1 f.n2 (whole f) (held_below f 0) 0 buf → AllWithin f.n1 f.n2 (route_pairs (graph_network f)) → buf ≡ front_bytes f.n1 f.n2 (route_pairs (graph_network f))
   all-collected c w = collects-all c (route_pairs (graph_network f)) w (λ x y. refl) (λ u v. none u v)
     where
       none : (u v : ℕ) → held_below f 0 u v ≡ false

@@ -1,5 +1,5 @@
 -- The turns of the sweep: from one x to the next that matters.
-use mathlib.Core.Path.{◌≡◌, refl, sym, ap, ◌∙◌, subst}
+use mathlib.Core.Path.{◌≡◌, refl, sym, ◌∙◌, subst}
 use mathlib.Core.Logic.{⊎_elim}
 use mathlib.Core.List.{List, [], ◌∷◌, ◌++◌}
 use Prim.Native.Nat.{ℕ, zero, suc, ◌+◌, ◌-◌, ◌/◌, ◌≤◌, ◌<◌}
@@ -10,19 +10,21 @@ use Rattle.limits.specs.Limits.{max_position}
 use Rattle.laws.specs.Tests.{T-ext, order as sides}
 use Rattle.laws.specs.Members.{any_out}
 use Rattle.laws.specs.Parts.{get_or-same}
+use Rattle.front.specs.declared.pos.Pos.{Pos}
 use Rattle.front.specs.Pair.{pair_of, holds_at}
 use Rattle.front.specs.Front.{Within, AllWithin}
 use Rattle.front.proofs.Pairs.{holds-is}
 use Rattle.front.proofs.Fronts.{holds-fewer}
-use Rattle.record.specs.Record.{record_size1, record_size2, listed, front_bytes, longest}
-use Rattle.buffer.specs.Steps.{record_in, Puttable}
+use Rattle.record.specs.Record.{record_size1, record_size2, listed, record_bytes, front_bytes}
+use Rattle.buffer.specs.Steps.{Puttable}
 use Rattle.buffer.proofs.Collects.{Collects, collects-none}
 use Rattle.network.specs.Walk.{route_pairs}
+use Rattle.relax.specs.declared.Net.{Net}
 use Rattle.relax.specs.declared.Step.{Step}
-use Rattle.relax.specs.Steps.{Graph, Laid, Work, Settled, Lent, Floodable, Lengths, graph_network, start, moved}
+use Rattle.relax.specs.Steps.{Graph, Laid, Work, Settled, Lent, Floodable, Lengths, graph_network, start}
 use Rattle.labels.proofs.Drains.{skipped, entered, first-in}
 use Rattle.labels.proofs.Settles.{settled-hold, at_first}
-use Rattle.sweep.specs.Steps.{whole, held_below, ByOrder, NextIn, Blank}
+use Rattle.sweep.specs.Steps.{whole, held_below, ByOrder, NoneIn, NextIn, Blank}
 use Rattle.sweep.proofs.Sweeps.{Height, held-below-is, same-height, rise-puttable, rise-height, all-collected}
 
 -- the sweep at x, where `node` enters; `last` is the height after x failures
@@ -89,32 +91,33 @@ module _ {f : Graph} {capacities links order label stack wait found : List ℕ} 
   puttable h = rise-puttable f w.done (x - 1) y last up now w.height h (inside h)
 
   -- what is collected then
-  pub collected : {found₁ : List ℕ} → length found₁ ≡ longest → (y ≤ last → found₁ ≡ found) → (last < y → record_in found₁ ≡ front_bytes (record_size1 found) (record_size2 found) (listed (record_in found) ++ (pair_of x y ∷ [])))
+  pub collected : {found₁ : List ℕ} → (y ≤ last → found₁ ≡ found) → (last < y → found₁ ≡ front_bytes (record_size1 found) (record_size2 found) (listed found ++ (pair_of x y ∷ [])))
       → Collects f.n1 f.n2 (whole f) (held_below f (x - 1)) (x - 1) found₁
-  collected {found₁} l same more =
+  collected {found₁} same more =
       ⊎_elim
       (λ le. subst (λ b. Collects f.n1 f.n2 (whole f) (held_below f (x - 1)) (x - 1) b) (sym (same le)) (same-height f w.done (x - 1) y last up now w.height le))
-      (λ lt. rise-height f w.done (x - 1) y last up now w.height lt (inside lt) l (more lt)) (sides y last)
+      (λ lt. rise-height f w.done (x - 1) y last up now w.height lt (inside lt) (more lt)) (sides y last)
 
-  module _ {found₁ : List ℕ} (c : Collects f.n1 f.n2 (whole f) (held_below f (x - 1)) (x - 1) found₁) {r : ℕ} (n : NextIn order label₁ (x - 1) y r) where
-    low : Settled f r label₁ wait₁ × Collects f.n1 f.n2 (whole f) (held_below f r) r found₁
-    low = down w.by_order (x - 1) r n.most (omega (arith, w.some, w.begun)) s c (λ k i j. omega (arith, n.none k i j, is))
+  module _ {found₁ : List ℕ} (c : Collects f.n1 f.n2 (whole f) (held_below f (x - 1)) (x - 1) found₁) where
+    low : (r : ℕ) → r ≤ x - 1 → ((k : ℕ) → r ≤ k → k < x - 1 → get_or label₁ (get_or order k 0) 0 ≤ y) → Settled f r label₁ wait₁ × Collects f.n1 f.n2 (whole f) (held_below f r) r found₁
+    low r most none = down w.by_order (x - 1) r most (omega (arith, w.some, w.begun)) s c (λ k i j. omega (arith, none k i j, is))
 
     -- no node is left that could raise the source's label
-    pub ended : r ≡ 0 → record_in found₁ ≡ front_bytes f.n1 f.n2 (route_pairs (graph_network f))
-    ended e = all-collected f (subst (λ k. Collects f.n1 f.n2 (whole f) (held_below f k) k found₁) e low.1) w.within
+    pub ended : NoneIn order label₁ (x - 1) y → found₁ ≡ front_bytes f.n1 f.n2 (route_pairs (graph_network f))
+    ended none = all-collected f (low 0 (omega arith) (λ k _ j. none k j)).1 w.within
 
     -- the next node enters
-    pub onward : {stack₁ : List ℕ} → 0 < r → Lengths label stack wait label₁ stack₁ wait₁ → Sweeping f capacities links order label₁ stack₁ wait₁ found₁ r (get_or order (r - 1) 0) y
-    onward {stack₁} h k =
+    pub onward : {stack₁ : List ℕ} {r : ℕ} → NextIn order label₁ (x - 1) y r → Lengths label stack wait label₁ stack₁ wait₁ → Sweeping f capacities links order label₁ stack₁ wait₁ found₁ r (get_or order (r - 1) 0) y
+    onward {stack₁} {r} n k =
         let o = w.by_order in
         let v = get_or order (r - 1) 0 in
-        let e : suc (r - 1) ≡ r = omega arith in
-        let b : r - 1 < f.n1 = omega (arith, n.most, early) in
+        let e : suc (r - 1) ≡ r = omega (arith, n.some) in
+        let low = low r n.most n.none in
+        let b : r - 1 < f.n1 = omega (arith, n.some, n.most, early) in
         let st : Settled f (suc (r - 1)) label₁ wait₁ = subst (λ i. Settled f i label₁ wait₁) (sym e) low.0 in
         record {
-          work = entered st (omega (arith, n.most, w.some, w.begun)) v (o.node (r - 1) b) (o.place (r - 1) b) (λ u. o.alone (r - 1) u b) (omega arith) (omega (arith, n.found h, is));
-          some = h;
+          work = entered st (omega (arith, n.some, n.most, w.some, w.begun)) v (o.node (r - 1) b) (o.place (r - 1) b) (λ u. o.alone (r - 1) u b) (omega arith) (omega (arith, n.found, is));
+          some = n.some;
           begun = omega (arith, n.most, w.begun);
           lent = w.lent;
           room = omega (arith, w.room, k.labels, k.pile);
@@ -127,7 +130,7 @@ module _ {f : Graph} {capacities links order label stack wait found : List ℕ} 
 -- ---- the first turn: only the target has a label
 module _ {f : Graph} {capacities links order found : List ℕ} (l : Laid f) (lent : Lent f capacities links) (o : ByOrder f order)
     (within : AllWithin f.n1 f.n2 (route_pairs (graph_network f)))
-    (empty : found ≡ f.n1 ∷ f.n2 ∷ replicate (longest - 2) 0) {d pile : List ℕ} (blank : Blank capacities d pile) (x : ℕ) (is_x : x ≡ start f) (some : 0 < x) where
+    (empty : found ≡ record_bytes f.n1 f.n2 []) {d pile : List ℕ} (blank : Blank capacities d pile) (x : ℕ) (is_x : x ≡ start f) (some : 0 < x) where
   settled : Settled f (start f) d (replicate (max_position + 1) 0)
   settled = at_first l (omega arith) (omega (arith, lent.long, blank.long)) blank.short (omega arith) blank.none (λ c. get_or-same (max_position + 1) c 0)
 
@@ -164,11 +167,10 @@ module _ {f : Graph} {capacities links order found : List ℕ} (l : Laid f) (len
       collecting =
           let c : Collects f.n1 f.n2 (held_below f x) (held_below f x) x found = collects-none l.small1 l.small2 empty in
           record {
-            long = c.long;
             small1 = c.small1;
             small2 = c.small2;
             done = c.done;
-            begins = c.begins;
+            is = c.is;
             form = c.form;
             holding = λ u v. T-ext (whole f u v) (held_below f x u v) (
               λ t. ⊎_elim (λ (le : x ≤ u). absurd (omega (arith, (shut v).0 (holds-fewer (route_pairs (graph_network f)) x u v v le (omega arith) t)))) (λ lt. (held-below-is f x u v).1 (lt, t)) (sides x u),
@@ -177,13 +179,12 @@ module _ {f : Graph} {capacities links order found : List ℕ} (l : Laid f) (len
             above = c.above;
           }
 
-  -- with the target's number and capacity as the code has them
-  pub begins-at : (t n y : ℕ) → f.target ≡ t → n ≡ t → get_or capacities (length capacities / 2 + n) 0 ≡ y → Sweeping f capacities links order (set d n y) pile (replicate (max_position + 1) 0) found x t 0
-  begins-at t n y i e z =
-      subst (λ m. Sweeping f capacities links order (set d m y) pile (replicate (max_position + 1) 0) found x t 0) (sym e)
-      (begins t y i (sym (lent.caps t (omega (arith, i, l.t-in))) ∙ ap (λ m. get_or capacities (length capacities / 2 + m) 0) (sym e) ∙ z))
+  -- with the target's capacity as the code has it
+  pub begins-at : (t y : ℕ) → f.target ≡ t → get_or capacities (length capacities / 2 + t) 0 ≡ y → Sweeping f capacities links order (set d t y) pile (replicate (max_position + 1) 0) found x t 0
+  begins-at t y i z = begins t y i (sym (lent.caps t (omega (arith, i, l.t-in))) ∙ z)
 
 -- `flood` may go on from the node that enters
-pub floodable : {f : Graph} {capacities links order label stack wait found : List ℕ} (begin : Step) (x node last : ℕ) → Sweeping f capacities links order label stack wait found x node last → begin.source ≡ f.source
-    → Floodable f capacities links (moved begin x (get_or label node 0) node 0) label stack wait
-floodable begin x node last w s = record { lent = w.lent; source = s; work = w.work; some = w.some; begun = w.begun; room = w.room }
+pub floodable : (begin : Step) {f : Graph} {net : Net} {order label stack wait found : List ℕ} {x : Pos 1} {level : Pos 2} {node last : ℕ}
+    → Sweeping f net.capacities.now net.links.now order label stack wait found x.0 node last → level.0 ≡ get_or label node 0 → begin.source ≡ f.source
+    → Floodable f net (record begin { x = x; level = level; node = node; top = 0 }) label stack wait
+floodable begin w e s = record { lent = w.lent; source = s; work = rw e w.work; some = w.some; begun = w.begun; room = w.room }

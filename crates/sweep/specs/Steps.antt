@@ -3,6 +3,7 @@ use Rattle.std.specs.Prelude.{◌≡◌, Bool, ◌&&◌, List, ℕ, suc, ◌-◌
 use Rattle.front.specs.Front.{holds, AllWithin}
 use Rattle.network.specs.Walk.{route_pairs}
 use Rattle.chains.specs.Steps.{max_elements}
+use Rattle.relax.specs.declared.Net.{Net}
 use Rattle.relax.specs.declared.Step.{Step}
 use Rattle.relax.specs.Steps.{Graph, graph_network, Laid, Lent, start}
 
@@ -25,11 +26,11 @@ pub record ByOrder (f : Graph) (order : List ℕ) : Type 0 where
   pub alone : (k v : ℕ) → k < f.n1 → v < length f.entry → get_or f.entry v 0 ≡ suc k → get_or order k 0 ≡ v
 
 -- what the sweep is given: a network as the slices hold it, the class 1 order, and the first step
-pub record Sweepable (f : Graph) (capacities links order : List ℕ) (n2 : ℕ) (begin : Step) : Type 0 where
+pub record Sweepable (f : Graph) (net : Net) (order : List ℕ) (n2 : ℕ) (begin : Step) : Type 0 where
   -- nodes, arcs and capacities
   pub laid : Laid f
   -- as the slices hold them
-  pub lent : Lent f capacities links
+  pub lent : Lent f net.capacities.now net.links.now
   -- the class 1 order
   pub by_order : ByOrder f order
   -- the class sizes
@@ -56,11 +57,17 @@ pub record Blank (capacities label stack : List ℕ) : Type 0 where
   -- no node has a label
   pub none : (v : ℕ) → get_or label v 0 ≡ 0
 
--- the next node to enter: the largest place up to z whose node has a label above `last`; 0 where there is none
+-- no node of a place up to z has a label above `last`
+abbrev pub NoneIn : List ℕ → List ℕ → ℕ → ℕ → Type 0
+NoneIn order label z last = (k : ℕ) → k < z → get_or label (get_or order k 0) 0 ≤ last
+
+-- the next node to enter: the largest place up to z whose node has a label above `last`
 pub record NextIn (order label : List ℕ) (z last r : ℕ) : Type 0 where
+  -- places are counted from 1
+  pub some : 0 < r
   -- at most z
   pub most : r ≤ z
   -- no node of a later place has such a label
   pub none : (k : ℕ) → r ≤ k → k < z → get_or label (get_or order k 0) 0 ≤ last
   -- its own node has
-  pub found : 0 < r → last < get_or label (get_or order (r - 1) 0) 0
+  pub found : last < get_or label (get_or order (r - 1) 0) 0

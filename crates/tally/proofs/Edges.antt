@@ -22,7 +22,7 @@ use Rattle.chance.proofs.Bounds.{rising-all}
 use Rattle.soundness.specs.Tally.{head_words, tally_size1, tally_size2, rounds, width, cell, Sound}
 use Rattle.cells.specs.Cells.{held}
 use Rattle.tally.specs.Calls.{removed, removable}
-use Rattle.cells.specs.Steps.{peak, turn_all, starts_line, line_test}
+use Rattle.cells.specs.Steps.{peak, exchange_all, starts_line, line_test}
 use Rattle.tally.specs.Steps.{ready_answer}
 use Rattle.cells.proofs.Peaks.{holds-peak, peak-next, peak-most, turn-within, turn_holds}
 use Rattle.tally.proofs.Wholes.{tally-sound}
@@ -104,17 +104,17 @@ module _ (r t : List ℕ) (ok : ready_answer r t ≡ success (0 ∷ [])) where
 
   -- and of the columns: the record holds in the last cells of both
   abbrev wide : ℕ → ℕ
-  wide l2 = peak (turn_all true (listed r)) (n2 - l2)
+  wide l2 = peak (exchange_all (listed r)) (n2 - l2)
 
   wide-most : (l2 : ℕ) → wide l2 ≤ n1 + 1
-  wide-most l2 = peak-most (turn_all true (listed r)) (n2 - l2) (n1 + 1) (λ p m. (turn-within (listed r) (n1 + 1) w within p m).1)
+  wide-most l2 = peak-most (exchange_all (listed r)) (n2 - l2) (n1 + 1) (λ p m. (turn-within (listed r) (n1 + 1) w within p m).1)
 
   both_ways : (l1 l2 : ℕ) → l1 ≤ n1 → l2 ≤ n2 → (w - high l1 ≤ l2) ↔ (n1 + 1 - wide l2 ≤ l1)
   both_ways l1 l2 h k =
       let a = n1 - l1 in
       let b = n2 - l2 in
       let row = holds-peak (listed r) a b in
-      let column = holds-peak (turn_all true (listed r)) b a in
+      let column = holds-peak (exchange_all (listed r)) b a in
       let turned = turn_holds (listed r) a b in (
         λ q. omega (arith, column.0 (turned.0 (row.1 (omega (arith, high-most l1))))),
         λ q. omega (arith, row.0 (turned.1 (column.1 (omega (arith, wide-most l2))))),
@@ -138,10 +138,10 @@ module _ (r t : List ℕ) (ok : ready_answer r t ≡ success (0 ∷ [])) where
       subst (λ z. (starts_line cells (l1 * w) w z 1 ≡ true) ↔ Begins (cell t l1) w (high l1)) (ap (peak (listed r)) e)
       (line-is cells (l1 * w) w (high l1) 1 (high-most l1) (cell t l1) (λ i b. at-cell l1 i (l1 * w + i * 1) (omega arith)))
 
-  column-is : (l2 : ℕ) → l2 ≤ n2 → (line_test (turn_all true (listed r)) w cells (n1 + 1) 1 w l2 ≡ true) ↔ Begins (λ l1. cell t l1 l2) (n1 + 1) (wide l2)
+  column-is : (l2 : ℕ) → l2 ≤ n2 → (line_test (exchange_all (listed r)) w cells (n1 + 1) 1 w l2 ≡ true) ↔ Begins (λ l1. cell t l1 l2) (n1 + 1) (wide l2)
   column-is l2 h =
       let e : n2 - l2 ≡ w - 1 - l2 = omega arith in
-      subst (λ z. (starts_line cells (l2 * 1) (n1 + 1) z w ≡ true) ↔ Begins (λ l1. cell t l1 l2) (n1 + 1) (wide l2)) (ap (peak (turn_all true (listed r))) e)
+      subst (λ z. (starts_line cells (l2 * 1) (n1 + 1) z w ≡ true) ↔ Begins (λ l1. cell t l1 l2) (n1 + 1) (wide l2)) (ap (peak (exchange_all (listed r))) e)
       (line-is cells (l2 * 1) (n1 + 1) (wide l2) w (wide-most l2) (λ l1. cell t l1 l2) (λ i b. at-cell i l2 (l2 * 1 + i * w) (omega arith)))
 
   -- where the record begins to hold in a row, and where it begins to hold with one more of class 1
@@ -154,7 +154,7 @@ module _ (r t : List ℕ) (ok : ready_answer r t ≡ success (0 ∷ [])) where
   rows = every (n1 + 1) (line_test (listed r) (n1 + 1) cells w w 1)
 
   abbrev columns : Bool
-  columns = every w (line_test (turn_all true (listed r)) w cells (n1 + 1) 1 w)
+  columns = every w (line_test (exchange_all (listed r)) w cells (n1 + 1) 1 w)
 
   edges : rows ≡ true → columns ≡ true → Edges
   edges e f =
@@ -170,7 +170,7 @@ module _ (r t : List ℕ) (ok : ready_answer r t ≡ success (0 ∷ [])) where
       row l1 h = (row_is l1 h).0 (every-at (line_test (listed r) (n1 + 1) cells w w 1) (n1 + 1) e l1 (omega arith))
 
       column : (l2 : ℕ) → l2 ≤ n2 → Begins (λ l1. cell t l1 l2) (n1 + 1) (wide l2)
-      column l2 h = (column-is l2 h).0 (every-at (line_test (turn_all true (listed r)) w cells (n1 + 1) 1 w) w f l2 (omega arith))
+      column l2 h = (column-is l2 h).0 (every-at (line_test (exchange_all (listed r)) w cells (n1 + 1) 1 w) w f l2 (omega arith))
 
   edge-rows : Edges → rows ≡ true
   edge-rows d =
@@ -179,7 +179,7 @@ module _ (r t : List ℕ) (ok : ready_answer r t ≡ success (0 ∷ [])) where
 
   edge-columns : Edges → ((l1 l2 : ℕ) → l1 ≤ n1 → l2 ≤ n2 → held r n1 n2 l1 l2 ≤ cell t l1 l2) → columns ≡ true
   edge-columns d some =
-      every-all (line_test (turn_all true (listed r)) w cells (n1 + 1) 1 w) w (λ l2 h. (column-is l2 (omega arith)).1 (record { after = λ i b q. falls l2 (omega arith) i (omega arith) q; whole = λ b q. top l2 (omega arith) q }))
+      every-all (line_test (exchange_all (listed r)) w cells (n1 + 1) 1 w) w (λ l2 h. (column-is l2 (omega arith)).1 (record { after = λ i b q. falls l2 (omega arith) i (omega arith) q; whole = λ b q. top l2 (omega arith) q }))
     where
       falls : (l2 : ℕ) → l2 ≤ n2 → (l1 : ℕ) → l1 < n1 → suc l1 ≡ n1 + 1 - wide l2 → cell t l1 l2 < cell t (suc l1) l2
       falls l2 k l1 h q =

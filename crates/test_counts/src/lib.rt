@@ -1,144 +1,98 @@
-// Answers of calls as numbers, and how often each number came, alone and with another that applied
-// too.
+// Answers of calls against a plain reading; how often each number applied, alone and with another
+// that applied too.
 #![tactic(auto)]
 
-ghost use Rattle.std.specs.Prelude.{◌≤◌};
+ghost use Rattle.std.specs.Prelude.{◌≤◌, ◌<◌, length};
 
 use answer::{Header, Refusal};
 use std::io;
-use test_files::Judged;
-use test_support::field;
+use test_files::{Judged, Trailer, arcs_of, members, nodes_of, wrote};
 
-// ---- answers: the number of a refusal, 0 for a success
-pub fn opened(o: Result<Header, Refusal>) -> usize {
-    match o {
-        Ok(_) => 0,
-        Err(r) => u32::from(r) as usize,
-    }
+// ---- answers
+// Whether opening answered what is due, and a success tells what the file does.
+pub fn opened_right(file: &[u8], due: Judged, got: Result<Header, Refusal>) -> bool
+    requires { length file.now ≤ 10000 }
+{
+    let h = match got {
+        Ok(h) => h,
+        Err(r) => return due.first == Some(u32::from(r)),
+    };
+    let t = Trailer::of(file);
+    let k = t.numbers;
+    let n1 = members(nodes_of(file), arcs_of(file), 1);
+    let n2 = members(nodes_of(file), arcs_of(file), 2);
+    due.first.is_none()
+        && [h.nodes, h.arcs, h.rounds] == [t.nodes, k.arcs, k.rounds]
+        && [h.source, h.target] == [k.source, k.target]
+        && [h.n1, h.n2] == [n1, n2]
 }
 
-pub fn done(d: Result<(), Refusal>) -> usize {
-    match d {
-        Ok(()) => 0,
-        Err(r) => u32::from(r) as usize,
-    }
-}
-
-// 1000 and the length written, or the number of a refusal.
-pub fn written(w: Result<usize, Refusal>) -> usize {
-    match w {
-        Ok(n) => 1000 + n % 100000,
-        Err(r) => u32::from(r) as usize,
+// Whether a call that writes a file answered what is due: a success wrote these bytes alone, a refusal
+// none.
+pub fn wrote_right(bytes: &[u8], due: Judged, got: Result<usize, Refusal>, out: &[u8]) -> bool {
+    match got {
+        Ok(n) => due.first.is_none() && n == bytes.len() && wrote(out, bytes),
+        Err(r) => due.first == Some(u32::from(r)) && wrote(out, b""),
     }
 }
 
 // ---- counts
-// The first place counts wrong answers. A call has a place for each first and each second number
-// that applied: 40 × first + second.
-pub const WRONG: usize = 0;
-
-pub const PER_CALL: usize = 1600;
-
+// A number above each of document 01's and 02's.
 const NUMBERS: usize = 40;
 
-// One more at a place of the counts, where the test holds.
-pub fn count(counts: &mut [u64], at: usize, test: bool) {
-    if !test {
-        return;
-    }
-    if at < counts.len() {
-        counts[at] = counts[at] % 1000000 + 1;
-    }
+// What the cases of one call should have answered: how often each number applied first, and with
+// each second one; place 0 stands for no number.
+#[derive(Clone, Copy)]
+pub struct Answers {
+    seen: [[u64; NUMBERS]; NUMBERS],
 }
 
-pub fn counted(counts: &[u64], at: usize) -> u64 {
-    if at < counts.len() { counts[at] } else { 0 }
-}
-
-// What a call should have answered, its places in the counts from `call` on; and whether it did.
-pub fn judged(counts: &mut [u64], call: usize, j: Judged, right: bool)
-    requires { call ≤ 100000 }
+fn place(number: Option<u32>) -> usize
+    ensures { result < 40 }
 {
-    let first = j.first % NUMBERS;
-    let second = j.second % NUMBERS;
-    count(counts, call + NUMBERS * first + second, true);
-    count(counts, WRONG, !right);
+    number.unwrap_or(0) as usize % NUMBERS
 }
 
-// ---- output
-// Part of a line: a name and a number.
-pub fn say(rt: &impl Print, name: &[u8], n: usize) -> io::Result<()> {
-    rt.write_all(name)?;
-    print!(rt; "{n}")
+// One more where the test holds.
+pub fn tick(count: &mut u64, test: bool) {
+    *count = count.saturating_add(u64::from(test));
 }
 
-pub fn end_line(rt: &impl Print) -> io::Result<()> {
-    rt.write_all(b"\n")
-}
-
-// The sum of the places of a first number.
-fn all_of(counts: &[u64], at: usize) -> u64
-    requires { at ≤ 200000 }
-{
-    let mut n: u64 = 0;
-    let mut k: usize = 0;
-    while k < NUMBERS {
-        n += counted(counts, at + k) % 10000000;
-        k += 1;
+impl Answers {
+    pub fn new() -> Answers {
+        Answers {
+            seen: [[0; NUMBERS]; NUMBERS],
+        }
     }
-    n
+
+    // A case: the numbers that it should have answered, and whether it did.
+    pub fn judge(&mut self, j: Judged, right: bool, wrong: &mut u64) {
+        tick(&mut self.seen[place(j.first)][place(j.second)], true);
+        tick(wrong, !right);
+    }
+
+    // The call's name, its successes and its refusals; a number behind `with` is the next that
+    // applied.
+    pub fn show(&self, rt: &impl Print, name: &str) -> io::Result<()> {
+        println!(rt; "{name}\n  good {}", self.seen[0][0])?;
+        for (first, seconds) in self.seen.iter().enumerate().skip(1) {
+            let n = seconds.iter().fold(0u64, |n, &more| n.saturating_add(more));
+            if 0 < n {
+                print!(rt; "  refused {first} {n}")?;
+                with_others(rt, seconds)?;
+                println!(rt;)?;
+            }
+        }
+        Ok(())
+    }
 }
 
 // Each second number that came.
-fn with_others(rt: &impl Print, counts: &[u64], at: usize) -> io::Result<()>
-    requires { at ≤ 200000 }
-{
-    let mut k: usize = 1;
-    while k < NUMBERS {
-        let n = counted(counts, at + k);
+fn with_others(rt: &impl Print, seconds: &[u64]) -> io::Result<()> {
+    for (second, &n) in seconds.iter().enumerate().skip(1) {
         if 0 < n {
-            say(rt, b", with ", k)?;
-            say(rt, b" ", n as usize)?;
+            print!(rt; ", with {second} {n}")?;
         }
-        k += 1;
     }
     Ok(())
-}
-
-// A line for each number that came.
-fn numbers(rt: &impl Print, counts: &[u64], call: usize) -> io::Result<()>
-    requires { call ≤ 100000 }
-{
-    let mut k: usize = 1;
-    while k < NUMBERS {
-        let at = call + NUMBERS * k;
-        let n = all_of(counts, at);
-        if 0 < n {
-            say(rt, b"  refused ", k)?;
-            say(rt, b" ", n as usize)?;
-            with_others(rt, counts, at)?;
-            end_line(rt)?;
-        }
-        k += 1;
-    }
-    Ok(())
-}
-
-// A call's name, its successes and its refusals; a number behind `with` is the next that applied.
-pub fn row(rt: &impl Print, name: &[u8], counts: &[u64], call: usize) -> io::Result<()>
-    requires { call ≤ 100000 }
-{
-    rt.write_all(name)?;
-    say(rt, b"  good ", counted(counts, call) as usize)?;
-    end_line(rt)?;
-    numbers(rt, counts, call)
-}
-
-// ---- lists of cases
-// Number k of a list; none is above the one that is given.
-pub fn number_in(list: &[u8], k: u64, most: usize) -> usize
-    ensures { result ≤ most }
-{
-    let n = field(list, k) as usize;
-    if most < n { 0 } else { n }
 }

@@ -2,15 +2,39 @@
 // first that applies is the answer.
 #![tactic(auto)]
 
-ghost use Rattle.std.specs.Prelude.{◌≡◌, ◌+◌, ◌≤◌, ◌<◌, length};
+ghost use Rattle.std.specs.Prelude.{◌≡◌, ◌+◌, ◌*◌, ◌≤◌, ◌<◌, length};
+ghost use Rattle.arrayvec.specs.ArrayVec.{array_vec_len};
 
-use test_support::{byte, poke};
+use arrayvec::ArrayVec;
+use test_support::byte;
 
-// The first two tests that applied; 0 for none.
-#[derive(Clone, Copy)]
+// The bytes of a study file, at most so many.
+pub type File = ArrayVec<u8, 8192>;
+
+// The numbers of the first two tests that applied.
+#[derive(Clone, Copy, Default)]
 pub struct Judged {
-    pub first: usize,
-    pub second: usize,
+    pub first: Option<u32>,
+    pub second: Option<u32>,
+}
+
+impl Judged {
+    // One more test, and its number.
+    pub fn note(self, test: bool, number: u32) -> Judged {
+        if !test {
+            return self;
+        }
+        if self.first.is_none() {
+            return Judged {
+                first: Some(number),
+                second: None,
+            };
+        }
+        Judged {
+            first: self.first,
+            second: self.second.or(Some(number)),
+        }
+    }
 }
 
 // Document 01's A, M, s and t.
@@ -22,28 +46,25 @@ pub struct Numbers {
     pub target: usize,
 }
 
-// No test has applied yet.
-pub fn untested() -> Judged {
-    Judged {
-        first: 0,
-        second: 0,
-    }
+// The sections of a study, and the numbers that are given for it.
+#[derive(Clone, Copy)]
+pub struct Sections<'a> {
+    pub nodes: &'a [u8],
+    pub arcs: &'a [u8],
+    pub rounds: &'a [u8],
+    pub numbers: Numbers,
+    ghost small: { (length nodes.now + length arcs.now + length rounds.now ≤ 8000) × (numbers.rounds < 4294967296) },
 }
 
-pub fn note(j: Judged, test: bool, number: usize) -> Judged {
-    if !test {
-        return j;
-    }
-    if j.first == 0 {
-        return Judged {
-            first: number,
-            second: 0,
-        };
-    }
-    Judged {
-        first: j.first,
-        second: if j.second == 0 { number } else { j.second },
-    }
+// A trailer: N, A, M, s, t, and how far before the trailer each section begins.
+#[derive(Clone, Copy)]
+pub struct Trailer {
+    pub nodes: usize,
+    pub numbers: Numbers,
+    pub nodes_back: usize,
+    pub arcs_back: usize,
+    pub rounds_back: usize,
+    ghost words: { (nodes < 4294967296) × (numbers.arcs < 4294967296) × (numbers.rounds < 4294967296) },
 }
 
 pub fn num(bytes: &[u8], at: usize) -> usize
@@ -52,73 +73,65 @@ pub fn num(bytes: &[u8], at: usize) -> usize
     byte(bytes, at) as usize
 }
 
-pub fn minus(x: usize, y: usize) -> usize
-    ensures { result ≤ x }
-{
-    if x < y { 0 } else { x - y }
-}
-
+// The bytes from a place on, so many at most.
 pub fn piece(bytes: &[u8], start: usize, count: usize) -> &[u8]
     ensures { length result.now ≤ length bytes.now }
 {
-    if bytes.len() <= start {
-        return &bytes[0..0];
-    }
-    if count < bytes.len() - start {
-        return &bytes[start..start + count];
-    }
-    &bytes[start..bytes.len()]
+    let rest = bytes.get(start..).unwrap_or(&[]);
+    rest.get(..count).unwrap_or(rest)
 }
 
-// The k-th number of the trailer.
-pub fn trailer(file: &[u8], k: usize) -> usize
-    requires { (length file.now ≤ 10000) × (k < 8) }
+// The word at a place, its lowest byte first.
+fn word(file: &[u8], at: usize) -> usize
+    requires { at ≤ 20000 }
     ensures { result < 4294967296 }
 {
-    let at = minus(file.len(), 32) + 4 * k;
-    num(file, at)
-        + 256 * num(file, at + 1)
-        + 65536 * num(file, at + 2)
-        + 16777216 * num(file, at + 3)
+    let bytes = [at, at + 1, at + 2, at + 3].map(|i| byte(file, i) as u8);
+    u32::from_le_bytes(bytes) as usize
+}
+
+impl Trailer {
+    // The trailer of a file; a byte that it lacks is 0.
+    pub fn of(file: &[u8]) -> Trailer
+        requires { length file.now ≤ 10000 }
+    {
+        let at = file.len().saturating_sub(32);
+        Trailer {
+            nodes: word(file, at),
+            numbers: Numbers {
+                arcs: word(file, at + 4),
+                rounds: word(file, at + 8),
+                source: word(file, at + 12),
+                target: word(file, at + 16),
+            },
+            nodes_back: word(file, at + 20),
+            arcs_back: word(file, at + 24),
+            rounds_back: word(file, at + 28),
+        }
+    }
 }
 
 // How many bytes are x.
-pub fn of_class(bytes: &[u8], x: usize) -> usize
+pub fn of_class(bytes: &[u8], x: u8) -> usize
     ensures { result ≤ length bytes.now }
 {
-    let mut n = 0;
-    let mut i = 0;
-    while i < bytes.len() {
-        let at = i;
-        i += 1;
-        if num(bytes, at) != x {
-            continue;
-        }
-        n += 1;
-    }
-    n
+    bytes.iter().filter(|&&b| b == x).count()
 }
 
 // How many arcs are of a class: one way, or both ways.
-pub fn arcs_of_class(arcs: &[u8], class: usize) -> usize
+pub fn arcs_of_class(arcs: &[u8], class: u8) -> usize
     requires { class ≤ 2 }
     ensures { result ≤ length arcs.now }
 {
-    let mut n = 0;
-    let mut i = 2;
-    while i < arcs.len() {
-        let kind = num(arcs, i);
-        i += 3;
-        if (kind != class) & (kind != class + 3) {
-            continue;
-        }
-        n += 1;
-    }
-    n
+    arcs.iter()
+        .skip(2)
+        .step_by(3)
+        .filter(|&&kind| (kind == class) | (kind == class + 3))
+        .count()
 }
 
 // How many members a class has: nodes and arcs.
-pub fn members(nodes: &[u8], arcs: &[u8], class: usize) -> usize
+pub fn members(nodes: &[u8], arcs: &[u8], class: u8) -> usize
     requires { (length nodes.now ≤ 10000) × (length arcs.now ≤ 10000) × (class ≤ 2) }
     ensures { result ≤ length nodes.now + length arcs.now }
 {
@@ -135,82 +148,56 @@ pub fn size_of(nodes: &[u8], arcs: &[u8], rounds: usize) -> usize
 }
 
 pub fn class_above(bytes: &[u8]) -> bool {
-    let mut i = 0;
-    while i < bytes.len() {
-        if 2 < num(bytes, i) {
-            return true;
-        }
-        i += 1;
-    }
-    false
+    bytes.iter().any(|&x| 2 < x)
 }
 
-// 8 in an entry of any kind.
-fn bad_arc(arcs: &[u8], n: usize) -> bool {
-    let mut i = 2;
-    while i < arcs.len() {
-        let from = num(arcs, i - 2);
-        let to = num(arcs, i - 1);
-        if !((from < n) & (to < n) & (from != to)) {
-            return true;
-        }
-        i += 3;
-    }
-    false
+// Whether an entry, of so many bytes each, has an end that is no node, or both ends equal.
+pub fn bad_arc(arcs: &[u8], size: usize, n: usize) -> bool
+    requires { 0 < size }
+{
+    arcs.chunks_exact(size).any(|arc| {
+        let from = num(arc, 0);
+        let to = num(arc, 1);
+        (n <= from) | (n <= to) | (from == to)
+    })
 }
 
 fn bad_kind(arcs: &[u8]) -> bool {
-    let mut i = 2;
-    while i < arcs.len() {
-        if 5 < num(arcs, i) {
-            return true;
-        }
-        i += 3;
-    }
-    false
+    arcs.iter().skip(2).step_by(3).any(|&kind| 5 < kind)
 }
 
-// Whether v stands in the bytes from `start` up to `end`.
-pub fn stands(bytes: &[u8], start: usize, end: usize, v: usize) -> bool {
-    let mut i = start;
-    while i < end {
-        if num(bytes, i) == v {
-            return true;
-        }
-        i += 1;
-    }
-    false
-}
-
-// Whether a place of the order holds no place of the class, or one that an earlier place holds.
-fn bad_order(n: usize, bytes: &[u8], start: usize, end: usize) -> bool {
-    let mut i = start;
-    while i < end {
-        let v = num(bytes, i);
-        if n <= v {
-            return true;
-        }
-        if stands(bytes, start, i, v) {
-            return true;
-        }
-        i += 1;
-    }
-    false
-}
-
-fn bad_rounds(n1: usize, n2: usize, bytes: &[u8], total: usize) -> bool
-    requires { (n1 ≤ 20000) × (n2 ≤ 20000) × (total ≤ 200000) }
+// Whether a place of the order holds no member, or one that an earlier place holds.
+fn bad_order<F: Fn(usize) -> bool>(bytes: &[u8], start: usize, end: usize, is_member: F) -> bool
+    requires { F.IsAlwaysCallable is_member }
 {
-    let mut at = 0;
-    let mut r = 0;
-    while r < total {
-        let mid = at % 1000000 + n1;
-        let end = mid + n2;
-        if bad_order(n1, bytes, at, mid) | bad_order(n2, bytes, mid, end) {
+    for i in start..end {
+        let v = num(bytes, i);
+        if !is_member(v) | (start..i).any(|k| num(bytes, k) == v) {
             return true;
         }
-        at = end;
-        r += 1;
+    }
+    false
+}
+
+// Whether one of so many rounds has a bad order: each is an order of n1 bytes and one of n2.
+pub fn bad_rounds<F: Fn(u8, usize) -> bool>(
+    bytes: &[u8],
+    total: usize,
+    n1: usize,
+    n2: usize,
+    is_member: F,
+) -> bool
+    requires small { (n1 ≤ 20000) × (n2 ≤ 20000) × (total < 4294967296) }
+    requires callable { F.IsAlwaysCallable is_member }
+{
+    for r in 0..total {
+        let at = r * (n1 + n2);
+        let mid = at + n1;
+        if bad_order(bytes, at, mid, |v| is_member(1, v))
+            | bad_order(bytes, mid, mid + n2, |v| is_member(2, v))
+        {
+            return true;
+        }
     }
     false
 }
@@ -219,96 +206,104 @@ fn bad_rounds(n1: usize, n2: usize, bytes: &[u8], total: usize) -> bool
 fn parts(j: Judged, n: usize, nodes: &[u8], arcs: &[u8]) -> Judged
     requires { (length nodes.now ≤ 10000) × (length arcs.now ≤ 10000) }
 {
-    let j = note(j, class_above(nodes), 5);
-    let j = note(j, bad_arc(arcs, n), 8);
-    let j = note(j, bad_kind(arcs), 32);
     let large = (64 < members(nodes, arcs, 1)) | (64 < members(nodes, arcs, 2));
-    note(j, large, 6)
+    j.note(class_above(nodes), 5)
+        .note(bad_arc(arcs, 3, n), 8)
+        .note(bad_kind(arcs), 32)
+        .note(large, 6)
+}
+
+// 2 and 3, for N and the other numbers.
+fn limits(j: Judged, n: usize, k: Numbers, whole_arcs: bool) -> Judged {
+    let wrong = (n < 2) | (160 < n) | (1024 < k.arcs) | (100000 < k.rounds);
+    j.note(wrong | !whole_arcs, 2).note(
+        (n <= k.source) | (n <= k.target) | (k.source == k.target),
+        3,
+    )
 }
 
 // The writer's numbers but 15.
-pub fn given(nodes: &[u8], arcs: &[u8], rounds: &[u8], k: Numbers) -> Judged
-    requires { (length nodes.now ≤ 10000) × (length arcs.now ≤ 10000) × (k.rounds ≤ 200000) }
-{
-    let n = nodes.len();
-    let s = k.source;
-    let t = k.target;
-    let total = k.rounds;
-    let limits = (n < 2) | (160 < n) | (1024 < arcs.len() / 3) | (100000 < total);
-    let j = note(untested(), limits | (arcs.len() % 3 != 0), 2);
-    let j = note(j, (n <= s) | (n <= t) | (s == t), 3);
-    let j = parts(j, n, nodes, arcs);
-    let j = note(j, rounds.len() != size_of(nodes, arcs, total), 9);
-    let n1 = members(nodes, arcs, 1);
-    let n2 = members(nodes, arcs, 2);
-    note(j, bad_rounds(n1, n2, rounds, total), 11)
+pub fn given(s: Sections<'_>) -> Judged {
+    let n = s.nodes.len();
+    let n1 = members(s.nodes, s.arcs, 1);
+    let n2 = members(s.nodes, s.arcs, 2);
+    let is_member = |class, v| v < if class == 1 { n1 } else { n2 };
+    let total = s.numbers.rounds;
+    let arcs = s.arcs.len() / 3;
+    let j = limits(
+        Judged::default(),
+        n,
+        Numbers { arcs, ..s.numbers },
+        s.arcs.len() % 3 == 0,
+    );
+    parts(j, n, s.nodes, s.arcs)
+        .note(s.rounds.len() != size_of(s.nodes, s.arcs, total), 9)
+        .note(bad_rounds(s.rounds, total, n1, n2, is_member), 11)
 }
 
 // 1, 2 and 3.
 pub fn counts(file: &[u8]) -> Judged
     requires { length file.now ≤ 10000 }
 {
-    let n = trailer(file, 0);
-    let a = trailer(file, 1);
-    let m = trailer(file, 2);
-    let s = trailer(file, 3);
-    let t = trailer(file, 4);
-    let j = note(untested(), (file.len() < 32) | (16777216 < file.len()), 1);
-    let j = note(j, (n < 2) | (160 < n) | (1024 < a) | (100000 < m), 2);
-    note(j, (n <= s) | (n <= t) | (s == t), 3)
+    let t = Trailer::of(file);
+    let length = (file.len() < 32) | (16777216 < file.len());
+    limits(Judged::default().note(length, 1), t.nodes, t.numbers, true)
 }
 
 // 4, for an arc section of this many bytes.
 pub fn behind(file: &[u8], arcs: usize) -> bool
     requires { length file.now ≤ 10000 }
 {
-    let n = trailer(file, 0);
-    let dn = trailer(file, 5);
-    let da = trailer(file, 6);
-    let dm = trailer(file, 7);
-    let behind = (da < dm) | (dn < da) | (minus(file.len(), 32) < dn);
-    behind | (minus(dn, da) < n) | (minus(da, dm) < arcs)
+    let t = Trailer::of(file);
+    (t.arcs_back < t.rounds_back)
+        | (t.nodes_back < t.arcs_back)
+        | (file.len().saturating_sub(32) < t.nodes_back)
+        | (t.nodes_back.saturating_sub(t.arcs_back) < t.nodes)
+        | (t.arcs_back.saturating_sub(t.rounds_back) < arcs)
 }
 
-// The bytes of a section: so many from the distance on that the trailer gives at k.
-pub fn section(file: &[u8], k: usize, count: usize) -> &[u8]
-    requires { (length file.now ≤ 10000) × (k < 8) }
+// The bytes of a section: so many from the distance before the trailer on.
+pub fn section(file: &[u8], back: usize, count: usize) -> &[u8]
+    requires { length file.now ≤ 10000 }
     ensures { length result.now ≤ 10000 }
 {
-    piece(file, minus(minus(file.len(), 32), trailer(file, k)), count)
+    let end = file.len().saturating_sub(32);
+    piece(file, end.saturating_sub(back), count)
 }
 
 pub fn nodes_of(file: &[u8]) -> &[u8]
     requires { length file.now ≤ 10000 }
     ensures { length result.now ≤ 10000 }
 {
-    section(file, 5, trailer(file, 0))
+    let t = Trailer::of(file);
+    section(file, t.nodes_back, t.nodes)
 }
 
 pub fn arcs_of(file: &[u8]) -> &[u8]
     requires { length file.now ≤ 10000 }
     ensures { length result.now ≤ 10000 }
 {
-    section(file, 6, 3 * trailer(file, 1))
+    let t = Trailer::of(file);
+    section(file, t.arcs_back, 3 * t.numbers.arcs)
 }
 
 // The numbers of opening.
 pub fn opening(file: &[u8]) -> Judged
     requires { length file.now ≤ 10000 }
 {
+    let t = Trailer::of(file);
     let nodes = nodes_of(file);
     let arcs = arcs_of(file);
-    let j = note(counts(file), behind(file, 3 * trailer(file, 1)), 4);
-    let j = parts(j, trailer(file, 0), nodes, arcs);
-    let rounds = size_of(nodes, arcs, trailer(file, 2));
-    note(j, trailer(file, 7) < rounds, 9)
+    let j = counts(file).note(behind(file, 3 * t.numbers.arcs), 4);
+    let rounds = size_of(nodes, arcs, t.numbers.rounds);
+    parts(j, t.nodes, nodes, arcs).note(t.rounds_back < rounds, 9)
 }
 
 // And 10 for a round number.
 pub fn check(file: &[u8], round: usize) -> Judged
     requires { length file.now ≤ 10000 }
 {
-    note(opening(file), trailer(file, 2) <= round, 10)
+    opening(file).note(Trailer::of(file).numbers.rounds <= round, 10)
 }
 
 // The bytes of a round in a file that opens.
@@ -317,67 +312,50 @@ pub fn round(file: &[u8], round: usize) -> &[u8]
 {
     let nodes = nodes_of(file);
     let arcs = arcs_of(file);
-    let at = minus(minus(file.len(), 32), trailer(file, 7));
+    let rounds = section(file, Trailer::of(file).rounds_back, file.len());
     piece(
-        file,
-        at + size_of(nodes, arcs, round % 1000000),
+        rounds,
+        size_of(nodes, arcs, round % 1000000),
         size_of(nodes, arcs, 1),
     )
 }
 
-// Copies the bytes to a place.
-fn lay(bytes: &[u8], out: &mut [u8], at: usize)
-    requires { at ≤ 100000 }
+// A file of these sections, good or bad, behind so many bytes.
+pub fn file(s: Sections<'_>, front: usize) -> File
+    requires { front ≤ 100 }
+    ensures { array_vec_len result ≡ front + length s.entry.nodes.now + length s.entry.arcs.now + length s.entry.rounds.now + 32 }
 {
-    let mut i = 0;
-    while i < bytes.len() {
-        poke(out, at + i, byte(bytes, i));
-        i += 1;
+    let n = s.nodes.len();
+    let k = s.numbers;
+    let rounds = s.rounds.len();
+    let arcs = s.arcs.len() + rounds;
+    let mut out = ArrayVec::new();
+    let _ = out.try_extend_from_slice(&[0; 100][..front]);
+    let _ = out.try_extend_from_slice(s.nodes);
+    let _ = out.try_extend_from_slice(s.arcs);
+    let _ = out.try_extend_from_slice(s.rounds);
+    for x in [
+        n,
+        k.arcs,
+        k.rounds,
+        k.source,
+        k.target,
+        n + arcs,
+        arcs,
+        rounds,
+    ] {
+        let word = ((x % 4294967296) as u32).to_le_bytes();
+        let _ = out.try_extend_from_slice(&word);
     }
+    out
 }
 
-fn lay_word(n: usize, out: &mut [u8], at: usize)
-    requires { at ≤ 100000 }
-{
-    poke(out, at, n as u64);
-    poke(out, at + 1, n as u64 / 256);
-    poke(out, at + 2, n as u64 / 65536);
-    poke(out, at + 3, n as u64 / 16777216);
-}
+// ---- output slices
+// What every byte of an output slice is before a call.
+pub const UNTOUCHED: u8 = 165;
 
-fn lay_trailer(words: [usize; 8], out: &mut [u8], at: usize)
-    requires { at ≤ 90000 }
-{
-    let mut k = 0;
-    while k < 8 {
-        lay_word(words[k], out, at + 4 * k);
-        k += 1;
-    }
-}
-
-// A file of these sections, good or bad, from a place on; and where it ends.
-pub fn file(
-    nodes: &[u8],
-    arcs: &[u8],
-    rounds: &[u8],
-    k: Numbers,
-    out: &mut [u8],
-    front: usize,
-) -> usize
-    requires { (length nodes.now ≤ 10000) × (length arcs.now ≤ 10000) × (length rounds.now ≤ 10000) × (front ≤ 100) }
-    ensures { result ≡ front + length nodes.now + length arcs.now + length rounds.now + 32 }
-{
-    let n = nodes.len();
-    let a = arcs.len();
-    let r = rounds.len();
-    let at = front + n + a + r;
-    lay(nodes, out, front);
-    lay(arcs, out, front + n);
-    lay(rounds, out, front + n + a);
-    lay_trailer(
-        [n, k.arcs, k.rounds, k.source, k.target, n + a + r, a + r, r],
-        out,
-        at,
-    );
-    at + 32
+// Whether the slice has these bytes at its front and is untouched behind them.
+pub fn wrote(out: &[u8], bytes: &[u8]) -> bool {
+    out.strip_prefix(bytes)
+        .is_some_and(|rest| rest.iter().all(|&x| x == UNTOUCHED))
 }

@@ -11,146 +11,100 @@ mod made;
 ghost use Rattle.std.specs.Prelude.{◌≤◌, length};
 
 use std::io;
-use test_counts::{PER_CALL, WRONG, count, counted, judged, opened, row, written};
-use test_studies::some;
-use test_support::{equal, line};
+use test_counts::{Answers, opened_right, tick, wrote_right};
+use test_files::{Judged, UNTOUCHED};
+use test_studies::{Study, damaged_file, some};
 
-// ---- counts
-const CONVERTER: usize = 1;
-
-const OPENING: usize = CONVERTER + PER_CALL;
-
-const NEW_FILES: usize = OPENING + PER_CALL;
-
-// Slices exactly long enough, and longer ones; fronts, and their pairs.
-const EXACT: usize = NEW_FILES + PER_CALL;
-
-const ROOMY: usize = EXACT + 1;
-
-pub const FRONTS: usize = EXACT + 2;
-
-pub const PAIRS: usize = EXACT + 3;
-
-const COUNTS: usize = EXACT + 4;
+#[derive(Drop)]
+pub struct Counts {
+    pub wrong: u64,
+    old_files: Answers,
+    new_files: Answers,
+    opening: Answers,
+    // slices exactly long enough, and longer ones
+    exact: u64,
+    roomy: u64,
+    // fronts, and their pairs
+    pub fronts: u64,
+    pub pairs: u64,
+}
 
 // ---- calls
-// The converter's answer with the first `room` bytes of `out` as its output slice.
-fn convert(file: &[u8], out: &mut [u8], room: usize) -> usize
-    requires { room ≤ length out.old }
-{
-    written(convert::convert(file, &mut out[0..room]))
-}
-
-// A refusal leaves all bytes, whether there is room or not.
-fn refuses(file: &[u8], number: usize, room: usize) -> bool
-    requires { room ≤ 256 }
-{
-    let untouched = [165u8; 256];
-    let mut out = [165u8; 256];
-    let got = convert(file, &mut out, room);
-    (got == number) & equal(&out, &untouched)
-}
-
-// A good file into a slice one byte short, exactly long enough or longer, and every byte behind it.
-fn converts(file: &[u8], short: usize) -> bool
+// What is due from the converter, and whether it came. A refusal leaves all bytes, whether there is
+// room or not; a good file goes into a slice one byte short, exactly long enough or longer.
+fn convert(file: &[u8], short: usize) -> (Judged, bool)
     requires { (length file.now ≤ 10000) × (short ≤ 4) }
 {
-    let untouched = [165u8; 8192];
-    let mut out = [165u8; 8192];
-    let mut want = [165u8; 8192];
-    let end = test_old_files::convert(file, &mut want);
-    if end == 0 {
-        return false;
+    let due = test_old_files::converting(file);
+    if due.first.is_some() {
+        let mut out = [UNTOUCHED; 256];
+        let got = convert::convert(file, &mut out[..60 * short]);
+        return (due, wrote_right(b"", due, got, &out));
     }
-    if 8000 < end {
-        return false;
-    }
-    let got = convert(file, &mut out, end + short - 1);
-    if short == 0 {
-        return (got == 15) & equal(&out, &untouched);
-    }
-    (got == 1000 + end) & equal(&out, &want)
+    let Some(new) = test_old_files::convert(file) else {
+        return (due, false);
+    };
+    let due = due.note(short == 0, 15);
+    let mut out = [UNTOUCHED; 8200];
+    let got = convert::convert(file, &mut out[..new.len() + short - 1]);
+    (due, wrote_right(&new, due, got, &out))
 }
 
-fn try_convert(file: &[u8], short: usize, call: usize, counts: &mut [u64])
-    requires { (length file.now ≤ 10000) × (short ≤ 4) × (call ≤ 10000) }
+fn try_convert(file: &[u8], short: usize, answers: &mut Answers, wrong: &mut u64) -> bool
+    requires { (length file.now ≤ 10000) × (short ≤ 4) }
 {
-    let j = test_old_files::converting(file);
-    let number = j.first;
-    if number != 0 {
-        let right = refuses(file, number, 60 * short);
-        judged(counts, call, j, right);
-        return;
-    }
-    let right = converts(file, short);
-    judged(counts, call, test_files::note(j, short == 0, 15), right);
-    count(counts, EXACT, short == 1);
-    count(counts, ROOMY, 1 < short);
-}
-
-// Opening, which reads an old file as a new one; a success tells class sizes with the arcs in them.
-fn try_opening(file: &[u8], counts: &mut [u64])
-    requires { length file.now ≤ 10000 }
-{
-    let want = test_files::opening(file);
-    let got = study::open_study(file);
-    let mut right = opened(got) == want.first;
-    if let Ok(h) = got {
-        let nodes = test_files::nodes_of(file);
-        let arcs = test_files::arcs_of(file);
-        right = right
-            & (h.n1 == test_files::members(nodes, arcs, 1))
-            & (h.n2 == test_files::members(nodes, arcs, 2));
-    }
-    judged(counts, OPENING, want, right);
+    let (due, right) = convert(file, short);
+    answers.judge(due, right, wrong);
+    due.first.is_none()
 }
 
 // ---- files
-// The old file of a seed.
-fn try_old(seed: u64, counts: &mut [u64]) {
-    let mut file = [0u8; 8192];
-    let n = made::old_file(seed, &mut file);
-    try_convert(&file[0..n], some(seed, 50, 4), CONVERTER, counts);
-    try_opening(&file[0..n], counts);
+// The old file of a seed: converted, and read by opening as a new one, where a success tells class
+// sizes with the arcs in them.
+fn try_old(seed: u64, counts: &mut Counts) {
+    let file = made::old_file(seed);
+    let short = some(seed, 50, 4);
+    let good = try_convert(&file, short, &mut counts.old_files, &mut counts.wrong);
+    tick(&mut counts.exact, good && short == 1);
+    tick(&mut counts.roomy, good && 1 < short);
+    let due = test_files::opening(&file);
+    let right = opened_right(&file, due, study::open_study(&file));
+    counts.opening.judge(due, right, &mut counts.wrong);
 }
 
 // The new file of a seed, as an old one.
-fn try_new(seed: u64, counts: &mut [u64]) {
-    let mut file = [0u8; 8192];
-    let n = made::new_file(seed, &mut file);
-    try_convert(&file[0..n], some(seed, 50, 4), NEW_FILES, counts);
-}
-
-fn run(counts: &mut [u64]) {
-    let mut i: u64 = 0;
-    while i < 3000 {
-        try_old(test_support::seed(i), counts);
-        try_new(test_support::seed(i), counts);
-        i += 1;
-    }
-}
-
-// ---- output
-fn show(rt: &impl Print, counts: &[u64]) -> io::Result<()> {
-    row(rt, b"converter, old files\n", counts, CONVERTER)?;
-    row(rt, b"converter, new files\n", counts, NEW_FILES)?;
-    line(
-        rt,
-        b"converter, slices exactly long enough ",
-        counted(counts, EXACT),
-    )?;
-    line(rt, b"converter, longer slices ", counted(counts, ROOMY))?;
-    row(rt, b"opening, old files\n", counts, OPENING)?;
-    line(rt, b"fronts compared ", counted(counts, FRONTS))?;
-    line(rt, b"pairs listed ", counted(counts, PAIRS))?;
-    rt.write_all(b"limits of the converter, 0 for a success\n")
+fn try_new(seed: u64, counts: &mut Counts) {
+    let file = damaged_file(seed, Study::of(seed).sections());
+    let short = some(seed, 50, 4);
+    let good = try_convert(&file, short, &mut counts.new_files, &mut counts.wrong);
+    tick(&mut counts.exact, good && short == 1);
+    tick(&mut counts.roomy, good && 1 < short);
 }
 
 fn main(rt: HostRuntime) -> io::Result<()> {
-    let mut counts = [0u64; COUNTS];
-    run(&mut counts);
+    let mut counts = Counts {
+        wrong: 0,
+        old_files: Answers::new(),
+        new_files: Answers::new(),
+        opening: Answers::new(),
+        exact: 0,
+        roomy: 0,
+        fronts: 0,
+        pairs: 0,
+    };
+    for i in 0..3000 {
+        try_old(test_support::seed(i), &mut counts);
+        try_new(test_support::seed(i), &mut counts);
+    }
     fronts::try_fronts(&mut counts);
-    show(&rt, &counts)?;
-    edges::try_limits(&rt, &mut counts)?;
-    line(&rt, b"wrong ", counted(&counts, WRONG))
+    counts.old_files.show(&rt, "converter, old files")?;
+    counts.new_files.show(&rt, "converter, new files")?;
+    println!(&rt; "converter, slices exactly long enough {}", counts.exact)?;
+    println!(&rt; "converter, longer slices {}", counts.roomy)?;
+    counts.opening.show(&rt, "opening, old files")?;
+    println!(&rt; "fronts compared {}", counts.fronts)?;
+    println!(&rt; "pairs listed {}", counts.pairs)?;
+    println!(&rt; "limits of the converter, 0 for a success")?;
+    edges::try_limits(&rt, &mut counts.wrong)?;
+    println!(&rt; "wrong {}", counts.wrong)
 }

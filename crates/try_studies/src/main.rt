@@ -7,220 +7,147 @@ mod edges;
 
 ghost use Rattle.std.specs.Prelude.{◌≤◌, length};
 
-use answer::Header;
 use std::io;
-use test_counts::{PER_CALL, WRONG, count, counted, done, judged, opened, row, written};
-use test_files::Numbers;
-use test_support::{equal, line};
+use test_answers::number;
+use test_counts::{Answers, opened_right, tick, wrote_right};
+use test_files::{Sections, UNTOUCHED};
+use test_studies::{Study, damaged_file, some};
 
-// ---- counts, by call
-const WRITER: usize = 1;
-
-const OPENING: usize = WRITER + PER_CALL;
-
-const LOOKUP: usize = OPENING + PER_CALL;
-
-// Classes of 64 and of 65 members: of nodes alone, of arcs alone, of both.
-const CLASSES: usize = LOOKUP + PER_CALL;
-
-const COUNTS: usize = CLASSES + 6;
-
-// ---- calls
-// Whether a header says what the file does.
-fn told(file: &[u8], h: Header) -> bool
-    requires { length file.now ≤ 10000 }
-{
-    let nodes = test_files::nodes_of(file);
-    let arcs = test_files::arcs_of(file);
-    let counts = (h.nodes == test_files::trailer(file, 0))
-        & (h.arcs == test_files::trailer(file, 1))
-        & (h.rounds == test_files::trailer(file, 2));
-    let ends = (h.source == test_files::trailer(file, 3))
-        & (h.target == test_files::trailer(file, 4));
-    let sizes = (h.n1 == test_files::members(nodes, arcs, 1))
-        & (h.n2 == test_files::members(nodes, arcs, 2));
-    counts & ends & sizes
+// ---- counts
+// Classes of one size, by the sorts of members that they have.
+#[derive(Clone, Copy, Default)]
+struct Sorts {
+    nodes_alone: u64,
+    arcs_alone: u64,
+    both: u64,
 }
 
+impl Sorts {
+    fn note(&mut self, nodes: usize, arcs: usize) {
+        tick(&mut self.nodes_alone, arcs == 0);
+        tick(&mut self.arcs_alone, nodes == 0 && arcs != 0);
+        tick(&mut self.both, nodes != 0 && arcs != 0);
+    }
+
+    fn show(&self, rt: &impl Print, name: &str) -> io::Result<()> {
+        println!(rt; "{name}")?;
+        println!(rt; "  of nodes alone {}", self.nodes_alone)?;
+        println!(rt; "  of arcs alone {}", self.arcs_alone)?;
+        println!(rt; "  of nodes and arcs {}", self.both)
+    }
+}
+
+#[derive(Drop)]
+struct Counts {
+    wrong: u64,
+    writer: Answers,
+    opening: Answers,
+    lookup: Answers,
+    // classes of 64 and of 65 members
+    largest: Sorts,
+    too_large: Sorts,
+}
+
+// ---- calls
 // Opening, and the seven values of a success.
-fn try_open(file: &[u8], counts: &mut [u64])
+fn try_open(file: &[u8], counts: &mut Counts)
     requires { length file.now ≤ 10000 }
 {
-    let want = test_files::opening(file);
-    let got = study::open_study(file);
-    let mut right = opened(got) == want.first;
-    if let Ok(h) = got {
-        right = right & told(file, h);
-    }
-    judged(counts, OPENING, want, right);
+    let due = test_files::opening(file);
+    let right = opened_right(file, due, study::open_study(file));
+    counts.opening.judge(due, right, &mut counts.wrong);
 }
 
 // Both calls of lookup.
-fn try_round(file: &[u8], round: usize, counts: &mut [u64])
+fn try_round(file: &[u8], round: usize, counts: &mut Counts)
     requires { length file.now ≤ 10000 }
 {
-    let want = test_files::check(file, round);
-    let first = want.first;
-    let got = done(study::check_round(file, round));
-    let part = study::round_bytes(file, round);
-    let bytes = if first == 0 {
-        equal(part, test_files::round(file, round))
+    let due = test_files::check(file, round);
+    let bytes = if due.first.is_none() {
+        test_files::round(file, round)
     } else {
-        part.len() == 0
+        b""
     };
-    judged(counts, LOOKUP, want, (got == first) & bytes);
-}
-
-// The writer's answer with the first `room` bytes of `out` as its output slice.
-fn write(nodes: &[u8], arcs: &[u8], rounds: &[u8], k: Numbers, out: &mut [u8], room: usize) -> usize
-    requires { room ≤ length out.old }
-{
-    written(writer::write_study(
-        nodes,
-        arcs,
-        rounds,
-        k.source,
-        k.target,
-        k.rounds,
-        &mut out[0..room],
-    ))
+    let right = number(study::check_round(file, round)) == due.first
+        && study::round_bytes(file, round) == bytes;
+    counts.lookup.judge(due, right, &mut counts.wrong);
 }
 
 // The writer into a slice of this room, and every byte behind it.
-fn try_write(nodes: &[u8], arcs: &[u8], rounds: &[u8], k: Numbers, short: usize, counts: &mut [u64])
-    requires { (length nodes.now ≤ 200) × (length arcs.now ≤ 3200) × (length rounds.now ≤ 4100) × (k.rounds ≤ 200000) × (short ≤ 100) }
+fn try_write(s: Sections<'_>, short: usize, counts: &mut Counts)
+    requires { short ≤ 100 }
 {
-    let untouched = [165u8; 8192];
-    let mut out = [165u8; 8192];
-    let mut want = [165u8; 8192];
-    let judgement = test_files::given(nodes, arcs, rounds, k);
-    let end = test_files::file(nodes, arcs, rounds, k, &mut want, 0);
+    let file = test_files::file(s, 0);
     // One byte short, exactly long enough, or longer.
-    let room = end + short - 1;
-    let j = test_files::note(judgement, room < end, 15);
-    let got = write(nodes, arcs, rounds, k, &mut out, room);
-    let first = j.first;
-    let right = if first == 0 {
-        (got == 1000 + end) & equal(&out, &want)
-    } else {
-        (got == first) & equal(&out, &untouched)
-    };
-    judged(counts, WRITER, j, right);
+    let room = file.len() + short - 1;
+    let due = test_files::given(s).note(room < file.len(), 15);
+    let k = s.numbers;
+    let mut out = [UNTOUCHED; 8192];
+    let got = writer::write_study(
+        s.nodes,
+        s.arcs,
+        s.rounds,
+        k.source,
+        k.target,
+        k.rounds,
+        &mut out[..room],
+    );
+    let right = wrote_right(&file, due, got, &out);
+    counts.writer.judge(due, right, &mut counts.wrong);
 }
 
 // Opening, and lookup of the first round, of some round, of the one past the last, of the largest.
-fn try_file(file: &[u8], seed: u64, total: usize, counts: &mut [u64])
+fn try_file(file: &[u8], seed: u64, total: usize, counts: &mut Counts)
     requires { (length file.now ≤ 10000) × (total ≤ 200000) }
 {
     try_open(file, counts);
-    try_round(file, 0, counts);
-    try_round(file, test_studies::some(seed, 52, total), counts);
-    try_round(file, total, counts);
-    try_round(file, 18446744073709551615, counts);
+    for round in [0, some(seed, 52, total), total, usize::MAX] {
+        try_round(file, round, counts);
+    }
 }
 
 // ---- studies
-// Nodes alone, arcs alone, or both.
-fn sorts_of(nodes: usize, arcs: usize) -> usize
-    ensures { result ≤ 2 }
-{
-    if arcs == 0 {
-        return 0;
-    }
-    if nodes == 0 { 1 } else { 2 }
-}
-
 // Counts a class of 64 or 65 members by the sorts that it has.
-fn note_class(nodes: &[u8], arcs: &[u8], class: usize, counts: &mut [u64])
-    requires { (length nodes.now ≤ 200) × (length arcs.now ≤ 3200) × (class ≤ 2) }
+fn note_class(s: &Study, class: u8, counts: &mut Counts)
+    requires { class ≤ 2 }
 {
-    let x = test_files::of_class(nodes, class);
-    let y = test_files::arcs_of_class(arcs, class);
-    let at = sorts_of(x, y);
-    count(counts, CLASSES + at, x + y == 64);
-    count(counts, CLASSES + 3 + at, x + y == 65);
-}
-
-// The sections of a study: written, laid out by hand and damaged, opened, its rounds looked up.
-fn try_sections(
-    seed: u64,
-    nodes: &[u8],
-    arcs: &[u8],
-    rounds: &[u8],
-    total: usize,
-    counts: &mut [u64],
-)
-    requires { (length nodes.now ≤ 200) × (length arcs.now ≤ 3200) × (length rounds.now ≤ 4100) × (total ≤ 200000) }
-{
-    let k = Numbers {
-        arcs: arcs.len() / 3,
-        rounds: total,
-        source: test_studies::end(seed, 0),
-        target: test_studies::end(seed, 1),
-    };
-    let short = test_studies::some(seed, 50, 4);
-    try_write(nodes, arcs, rounds, k, short, counts);
-    let mut file = [0u8; 8192];
-    let front = test_studies::some(seed, 51, 4);
-    let end = test_files::file(nodes, arcs, rounds, k, &mut file, front);
-    let length = test_studies::damage(seed, &mut file, end);
-    try_file(&file[0..length], seed, total, counts);
-}
-
-fn try_study(seed: u64, nodes: &[u8], arcs: &[u8], rounds: &[u8], total: usize, counts: &mut [u64])
-    requires { (length nodes.now ≤ 200) × (length arcs.now ≤ 3200) × (length rounds.now ≤ 4100) × (total ≤ 200000) }
-{
-    note_class(nodes, arcs, 1, counts);
-    note_class(nodes, arcs, 2, counts);
-    try_sections(seed, nodes, arcs, rounds, total, counts);
-}
-
-// The study of a seed.
-fn one(seed: u64, counts: &mut [u64]) {
-    let mut nodes = [0u8; 256];
-    let mut arcs = [0u8; 3200];
-    let mut rounds = [0u8; 10240];
-    let n = test_studies::nodes(seed, &mut nodes);
-    let a = test_studies::arcs(seed, n, &mut arcs);
-    let total = test_studies::total(seed);
-    let r = test_studies::rounds(seed, &nodes[0..n], &arcs[0..a], total, &mut rounds);
-    try_study(
-        seed,
-        &nodes[0..n],
-        &arcs[0..a],
-        &rounds[0..r],
-        total,
-        counts,
-    );
-}
-
-fn run(counts: &mut [u64]) {
-    let mut i: u64 = 0;
-    while i < 6000 {
-        one(test_support::seed(i), counts);
-        i += 1;
+    let nodes = test_files::of_class(&s.nodes, class);
+    let arcs = test_files::arcs_of_class(&s.arcs, class);
+    match nodes + arcs {
+        64 => counts.largest.note(nodes, arcs),
+        65 => counts.too_large.note(nodes, arcs),
+        _ => {}
     }
 }
 
-// ---- output
-fn sorts(rt: &impl Print, name: &[u8], counts: &[u64], at: usize) -> io::Result<()>
-    requires { at ≤ 100000 }
-{
-    rt.write_all(name)?;
-    line(rt, b"  of nodes alone ", counted(counts, at))?;
-    line(rt, b"  of arcs alone ", counted(counts, at + 1))?;
-    line(rt, b"  of nodes and arcs ", counted(counts, at + 2))
+// The study of a seed: written, laid out by hand and damaged, opened, its rounds looked up.
+fn try_study(seed: u64, counts: &mut Counts) {
+    let s = Study::of(seed);
+    note_class(&s, 1, counts);
+    note_class(&s, 2, counts);
+    try_write(s.sections(), some(seed, 50, 4), counts);
+    let file = damaged_file(seed, s.sections());
+    try_file(&file, seed, s.numbers.rounds, counts);
 }
 
 fn main(rt: HostRuntime) -> io::Result<()> {
-    let mut counts = [0u64; COUNTS];
-    run(&mut counts);
-    sorts(&rt, b"classes of 64 members\n", &counts, CLASSES)?;
-    sorts(&rt, b"classes of 65 members\n", &counts, CLASSES + 3)?;
-    row(&rt, b"writer\n", &counts, WRITER)?;
-    row(&rt, b"opening\n", &counts, OPENING)?;
-    row(&rt, b"lookup, check and part\n", &counts, LOOKUP)?;
-    rt.write_all(b"limits, 0 for a success\n")?;
-    edges::try_limits(&rt, &mut counts)?;
-    line(&rt, b"wrong ", counted(&counts, WRONG))
+    let mut counts = Counts {
+        wrong: 0,
+        writer: Answers::new(),
+        opening: Answers::new(),
+        lookup: Answers::new(),
+        largest: Sorts::default(),
+        too_large: Sorts::default(),
+    };
+    for i in 0..6000 {
+        try_study(test_support::seed(i), &mut counts);
+    }
+    counts.largest.show(&rt, "classes of 64 members")?;
+    counts.too_large.show(&rt, "classes of 65 members")?;
+    counts.writer.show(&rt, "writer")?;
+    counts.opening.show(&rt, "opening")?;
+    counts.lookup.show(&rt, "lookup, check and part")?;
+    println!(&rt; "limits, 0 for a success")?;
+    edges::try_limits(&rt, &mut counts.wrong)?;
+    println!(&rt; "wrong {}", counts.wrong)
 }

@@ -1,32 +1,12 @@
 -- `cells::change_part` changes one cell after another.
-use mathlib.Core.Path.{◌≡◌, ap, ◌∙◌}
-use Prim.Native.Nat.{◌+◌}
 use native.Mathlib.Omega.{arith}
-use lib.ListN.{get_or, set, length-set}
+use Rattle.std.proofs.lemmas.List.{get_or_default}
+use lib.ListN.{get_or}
+use Rattle.std.proofs.lemmas.List.Edits.{map_over_more}
 use Rattle.cells.specs.Steps.{changed_word}
-use Rattle.cells.proofs.Tables.{part-value, part-next}
 use Rattle.cells.proofs.change_part.Goals as goal
 
-pub overflow_add-cells : goal.overflow_add-cells
-overflow_add-cells c = let a = c.args in
-    let l = c.loop-i in
-    let value : get_or l.cells (a.from + l.i) 0 ≡ get_or a.cells.now (a.from + l.i) 0 =
-    ap (λ w. get_or w (a.from + l.i) 0) l.invariant.1 ∙ part-value a.up a.down a.cells.now a.from l.i (omega (arith, c.requires.0))
-    in
-    omega (arith, value, (c.requires.1 l.i (omega arith)).0)
-
-pub overflow_sub-cells : goal.overflow_sub-cells
-overflow_sub-cells c = let a = c.args in
-    let l = c.loop-i in
-    let value : get_or l.cells (a.from + l.i) 0 ≡ get_or a.cells.now (a.from + l.i) 0 =
-    ap (λ w. get_or w (a.from + l.i) 0) l.invariant.1 ∙ part-value a.up a.down a.cells.now a.from l.i (omega (arith, c.requires.0))
-    in
-    omega (arith, value, (c.requires.1 l.i (omega arith)).1)
-
-pub loop-i-preserved : goal.loop-i-preserved
-loop-i-preserved c = let a = c.args in
-    let l = c.loop-i in (
-      omega arith,
-      ap (λ w. set w (a.from + l.i) (changed_word a.up a.down (get_or w (a.from + l.i) 0))) l.invariant.1 ∙ part-next a.up a.down a.cells.now a.from l.i (omega (arith, c.requires.0)),
-      length-set l.cells (a.from + l.i) (changed_word a.up a.down (get_or l.cells (a.from + l.i) 0)) ∙ l.invariant.2,
-    )
+pub loop-x-preserved : goal.loop-x-preserved
+loop-x-preserved c =
+    let l = c.loop-x in
+    map_over_more (changed_word c.args.up c.args.down) c.args.cells.now l.x-items l.x-index (get_or l.x-items l.x-index 0) c.loop-x-test.true l.invariant (get_or_default l.x-items l.x-index 0 _ (omega arith))

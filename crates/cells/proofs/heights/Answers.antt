@@ -11,44 +11,34 @@ use Rattle.record.specs.Record.{listed}
 use Rattle.record.proofs.Bytes.{listed-length}
 use Rattle.record.proofs.Records.{record_is}
 use Rattle.cells.specs.Steps.{turn_all, peak_at}
-use Rattle.cells.proofs.Peaks.{pair-in, height-next, turn-length}
+use Rattle.cells.proofs.Peaks.{turned-in, height-next, turn-length}
 use Rattle.cells.proofs.heights.Goals as goal
+use Rattle.cells.proofs.heights.Goals.{After-turned-p}
+
+-- the pair that was read
+looked : (c : After-turned-p) → let l = turn_all c.args.along (listed c.args.«record».now) in
+    (c.turned-p.result ≡ get_or l c.loop-i.i (pair_of 0 0)) × (c.turned-p.result.p1.0 < max_position + 1) × (c.loop-i.i < length l)
+looked c = rw (c.turned-p.ensures, c.pair_at.ensures) (turned-in c.args.«record».now ((record_is c.args.«record».now).0 c.requires) c.args.along c.loop-i.i (omega arith))
 
 pub loop-i-init : goal.loop-i-init
-loop-i-init c = (record { long = refl; at = λ x h. get_or-same (max_position + 1) x 0 }, omega arith, c.read_head-k.ensures.2)
+loop-i-init c = record { long = refl; at = λ x h. get_or-same (max_position + 1) x 0 }
 
 pub bounds-heights-x : goal.bounds-heights-x
-bounds-heights-x c =
-    let looked : let a = c.args in let l = turn_all a.flip (listed a.«record».now) in
-    (c.turned-p.result ≡ get_or l c.loop-i.i (pair_of 0 0)) × (c.turned-p.result.p1.0 < max_position + 1) × (c.loop-i.i < length l) =
-    let l = c.loop-i in
-    rw (c.turned-p.ensures, c.pair_at.ensures) (pair-in c.args.«record».now ((record_is c.args.«record».now).0 c.requires) c.args.flip l.i (omega (arith, l.invariant.2))) in
-    omega (arith, (looked).1, c.loop-i.invariant.0.long)
+bounds-heights-x c = (looked (goal.at.bounds-heights-x c).After-turned-p).1
 
 pub bounds-heights-x-in-loop-i : goal.bounds-heights-x-in-loop-i
-bounds-heights-x-in-loop-i c =
-    let looked : let a = c.args in let l = turn_all a.flip (listed a.«record».now) in
-    (c.turned-p.result ≡ get_or l c.loop-i.i (pair_of 0 0)) × (c.turned-p.result.p1.0 < max_position + 1) × (c.loop-i.i < length l) =
-    let l = c.loop-i in
-    rw (c.turned-p.ensures, c.pair_at.ensures) (pair-in c.args.«record».now ((record_is c.args.«record».now).0 c.requires) c.args.flip l.i (omega (arith, l.invariant.2))) in
-    omega (arith, (looked).1, c.loop-i.invariant.0.long)
+bounds-heights-x-in-loop-i c = (looked (goal.at.bounds-heights-x-in-loop-i c).After-turned-p).1
 
 pub loop-i-preserved : goal.loop-i-preserved
 loop-i-preserved c =
-    let looked : let a = c.args in let l = turn_all a.flip (listed a.«record».now) in
-    (c.turned-p.result ≡ get_or l c.loop-i.i (pair_of 0 0)) × (c.turned-p.result.p1.0 < max_position + 1) × (c.loop-i.i < length l) =
-    let l = c.loop-i in
-    rw (c.turned-p.ensures, c.pair_at.ensures) (pair-in c.args.«record».now ((record_is c.args.«record».now).0 c.requires) c.args.flip l.i (omega (arith, l.invariant.2))) in
-    let l = c.loop-i in
-    let p = looked in
-    let n = height-next l.invariant.0 p.2 c.turned-p.result p.0 p.1 in
-    (rw c.larger.ensures n, omega arith, l.invariant.2)
+    let p = looked (goal.at.loop-i-preserved c).After-turned-p in
+    rw c.max.ensures (height-next c.loop-i.invariant p.2 c.turned-p.result p.0 p.1)
 
 pub returns : goal.returns
 returns c =
     let l = c.loop-i in
     let r = c.args.«record».now in
-    let m = turn_all c.args.flip (listed r) in
+    let m = turn_all c.args.along (listed r) in
     let g = (record_is r).0 c.requires in
-    let e : l.i ≡ length m = omega (arith, l.invariant.1, l.invariant.2, listed-length r g.long, turn-length c.args.flip (listed r)) in
-    (l.invariant.0.long, λ x h. l.invariant.0.at x h ∙ ap (λ k. peak_at (take k m) x) e ∙ ap (λ m. peak_at m x) (take-length m))
+    let e : l.i ≡ length m = omega (arith, listed-length r g.long, turn-length c.args.along (listed r)) in
+    λ x h. l.invariant.at x h ∙ ap (λ k. peak_at (take k m) x) e ∙ ap (λ m. peak_at m x) (take-length m)

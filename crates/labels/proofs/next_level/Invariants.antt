@@ -1,11 +1,8 @@
--- `labels::next_level` goes down from the level: no level above m waits.
-use Prim.Native.Nat.{◌≤◌}
-use Rattle.limits.specs.Limits.{max_position}
-use Rattle.labels.proofs.Drains.{Seeking}
+-- `labels::next_level` goes down from the level: no level from m on waits.
+use mathlib.Core.Path.{◌≡◌}
+use Prim.Native.Nat.{ℕ, ◌≤◌, ◌<◌}
+use lib.ListN.{get_or}
 use Rattle.labels.proofs.next_level.Given as goal
 
-abbrev pub invariant-loop-floor : goal.invariant-loop-floor
-invariant-loop-floor l = Seeking l.wait l.done l.m × (l.done ≤ max_position)
-
-abbrev pub decreases-loop-floor : goal.decreases-loop-floor
-decreases-loop-floor l = l.m
+abbrev pub invariant-loop-m : goal.invariant-loop-m
+invariant-loop-m l = (c : ℕ) → l.m ≤ c → c < l.fn.level.0 → get_or l.wait c 0 ≡ 0

@@ -1,9 +1,8 @@
--- `lines::labelled` writes a label, and a number behind it.
-use native.Mathlib.Omega.{arith}
-use Rattle.lines.specs.Text.{decimal}
-use Rattle.lines.proofs.Texts.{placed-behind}
+-- `lines::labelled` writes the digits of the definition.
+use mathlib.Core.Path.{ap₂, ◌∙◌}
+use mathlib.Core.List.{◌++◌}
+use Rattle.lines.proofs.Texts.{decimal-is}
 use Rattle.lines.proofs.labelled.Goals as goal
 
-pub returns-clause-slice : goal.returns-clause-slice
-returns-clause-slice c =
-    placed-behind c.args.at c.text-end.result c.args.label.now (decimal c.args.n) c.args.out.now (omega (arith, c.requires)) c.text-end.ensures.end c.text-end.ensures.slice c.number.ensures.slice
+pub returns-clause-text : goal.returns-clause-text
+returns-clause-text c = c.push_str-2.ensures.bytes ∙ ap₂ (λ a b. a ++ b) c.push_str.ensures.bytes (c.format.ensures.text ∙ decimal-is c.args.n c.ranges.n.fits)

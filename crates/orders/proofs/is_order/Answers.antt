@@ -1,30 +1,47 @@
--- `orders::is_order`: the members before v stand once, so those from v on decide.
-use mathlib.Core.Path.{sym, ap, ◌∙◌}
+-- `orders::is_order`: the members before v stand once, so those from v on decide; of the scan for v, what was hit, and what stands from `at` on, make the whole.
+use mathlib.Core.Path.{◌≡◌, sym, ap, ◌∙◌}
+use Prim.Native.Nat.{◌+◌, ◌*◌}
 use native.Mathlib.Omega.{arith}
-use borrow.Author.Tests.{ne_eqb}
-use lib.Dec.{eqb}
+use lib.ListN.{length, drop}
+use borrow.Author.Tests.{eq-eqb, ne_eqb}
 use Rattle.orders.specs.Order.{count}
-use Rattle.orders.proofs.Scans.{count_room, count-room-end, stand-other, stands-not, stands-once}
+use Rattle.orders.proofs.Scans.{count-part, count_none, count_room, count-room-end, stands-not, stands-once}
 use Rattle.orders.proofs.is_order.Goals as goal
-use Rattle.orders.proofs.is_order.Goals.{else-c-class-via-then-c-class+else-not-stands_once, else-c-class-via-else-c-class}
+use Rattle.orders.proofs.is_order.Goals.{else-loop-at-test, then-loop-at-test+else-hits-gt-HIT+else-at-end-at-gt32}
 
-pub stands_once-requires-clause-past : goal.stands_once-requires-clause-past
-stands_once-requires-clause-past c = let order = c.args.order.now in let v = c.loop-v.v in rw c.put.ensures (count-room-end v 255 160 order _ (λ e. omega arith) (omega arith))
+pub loop-at-preserved : goal.loop-at-preserved
+loop-at-preserved c =
+    (c.loop-at.invariant.0, omega arith, omega (arith, c.loop-at.invariant.2, c.hits_in-hits.ensures.0, count-part c.members.v c.put.new.out c.loop-at.at 32))
 
-pub returns-then-not-stands_once : goal.returns-then-not-stands_once
-returns-then-not-stands_once c = let a = c.args in
-    let v = c.loop-v.v in
-    let once = sym c.stands_once.ensures ∙ c.if-not-stands_once.true in
-    let n = ap (count v) c.put.ensures ∙ count_room v 255 160 a.order.now (λ e. omega arith) in
-    sym (stands-not a.class a.order.now a.nodes.now v (omega arith) c.if-c-class.true c.loop-v.invariant (ap (λ k. eqb k 1) (sym n) ∙ once))
+pub members-preserved : goal.members-preserved
+members-preserved c = let a = c.args in
+    let v = c.members.v in
+    let places = c.put.new.out in
+    let room = ap (count v) c.put.ensures ∙ count_room v 255 160 a.order.now (λ e. omega arith) in
+    let none : count v (drop (length a.order.now) places) ≡ 0 = rw c.put.ensures (count-room-end v 255 160 a.order.now _ (λ e. omega arith) (omega arith)) in
+    let whole : 2 * count v a.order.now ≡ c.loop-at-test.hits = elim c.loop-at-test.branch [
+      | else-loop-at-test w ↦ omega (arith, room, c.loop-at.invariant.2, w.hits-is, count_none v places (length a.order.now) c.loop-at.at none w.loop-at-test.false)
+      | then-loop-at-test+else-hits-gt-HIT+else-at-end-at-gt32 w ↦
+          omega (arith, room, c.loop-at.invariant.2, w.hits-is, w.hits_in-hits.ensures.0, count-part v places c.loop-at.at 32, count_none v places (length a.order.now) (c.loop-at.at + 32) none (omega arith))
+    ] in
+    (c.loop-at.invariant.0, stands-once a.class a.order.now a.nodes.now v (omega arith) c.if-c-class.false c.members.invariant.1 (eq-eqb (count v a.order.now) 1 (omega arith)))
 
-pub loop-v-preserved : goal.loop-v-preserved
-loop-v-preserved c = let a = c.args in
-    let v = c.loop-v.v in
-    elim c.else-c-class.branch [
-      | else-c-class-via-then-c-class+else-not-stands_once w ↦
-          let once = sym w.stands_once.ensures ∙ w.if-not-stands_once.false in
-          let n = ap (count v) c.put.ensures ∙ count_room v 255 160 a.order.now (λ e. omega arith) in
-          stands-once a.class a.order.now a.nodes.now v (omega arith) w.if-c-class.true c.loop-v.invariant (ap (λ k. eqb k 1) (sym n) ∙ once)
-      | else-c-class-via-else-c-class w ↦ c.loop-v.invariant ∙ stand-other a.class a.order.now a.nodes.now v (omega arith) (ne_eqb _ _ w.if-c-class.false)
-    ]
+pub returns-then-hits-gt-HIT : goal.returns-then-hits-gt-HIT
+returns-then-hits-gt-HIT c = let a = c.args in
+    let v = c.members.v in
+    let room = ap (count v) c.put.ensures ∙ count_room v 255 160 a.order.now (λ e. omega arith) in
+    sym (stands-not a.class a.order.now a.nodes.now v (omega arith) c.if-c-class.false c.members.invariant.1
+    (ne_eqb (count v a.order.now) 1 (λ e. omega (arith, room, c.loop-at.invariant.2, c.hits_in-hits.ensures.0, count-part v c.put.new.out c.loop-at.at 32))))
+
+pub returns-then-hits-ne-HIT : goal.returns-then-hits-ne-HIT
+returns-then-hits-ne-HIT c = let a = c.args in
+    let v = c.members.v in
+    let places = c.put.new.out in
+    let room = ap (count v) c.put.ensures ∙ count_room v 255 160 a.order.now (λ e. omega arith) in
+    let none : count v (drop (length a.order.now) places) ≡ 0 = rw c.put.ensures (count-room-end v 255 160 a.order.now _ (λ e. omega arith) (omega arith)) in
+    let whole : 2 * count v a.order.now ≡ c.loop-at-test.hits = elim c.loop-at-test.branch [
+      | else-loop-at-test w ↦ omega (arith, room, c.loop-at.invariant.2, w.hits-is, count_none v places (length a.order.now) c.loop-at.at none w.loop-at-test.false)
+      | then-loop-at-test+else-hits-gt-HIT+else-at-end-at-gt32 w ↦
+          omega (arith, room, c.loop-at.invariant.2, w.hits-is, w.hits_in-hits.ensures.0, count-part v places c.loop-at.at 32, count_none v places (length a.order.now) (c.loop-at.at + 32) none (omega arith))
+    ] in
+    sym (stands-not a.class a.order.now a.nodes.now v (omega arith) c.if-c-class.false c.members.invariant.1 (ne_eqb (count v a.order.now) 1 (λ e. c.if-hits-ne-HIT.true (omega arith))))

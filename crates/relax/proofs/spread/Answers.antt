@@ -67,8 +67,8 @@ bounds-wait-mark_at c = omega (arith, mark-in (turn-at (c.loop-i.invariant c.req
 pub overflow_add-top : goal.overflow_add-top
 overflow_add-top c =
     let a = c.args in
-    let u = get_or a.links.now (length a.capacities.now / 2 + 2 * (c.loop-i.i - 1)) 0 in
-    omega (arith, space (turn-at (c.loop-i.invariant c.requires.0 c.requires.1) (omega arith) c.min-c.ensures) (leb-false _ _ (sym c.at_least.ensures ∙ c.if-at_least.false)), c.growth-top.ensures, grown-one a.at.level.0 c.min-c.result.0 a.at.x.0 (get_or a.capacities.now u 0))
+    let u = get_or a.net.links.now (length a.net.capacities.now / 2 + 2 * (c.loop-i.i - 1)) 0 in
+    omega (arith, space (turn-at (c.loop-i.invariant c.requires.0 c.requires.1) (omega arith) c.min-c.ensures) (leb-false _ _ (sym c.at_least.ensures ∙ c.if-at_least.false)), c.growth-top.ensures, grown-one a.at.level.0 c.min-c.result.0 a.at.x.0 (get_or a.net.capacities.now u 0))
 
 pub loop-i-smaller : goal.loop-i-smaller
 loop-i-smaller c = falls (turn-at (c.loop-i.invariant c.requires.0 c.requires.1) (omega arith) c.min-c.ensures)

@@ -1,60 +1,49 @@
 -- `report::report_study` writes the lines in order, up to the last or to the first write that fails.
-use mathlib.Core.Path.{◌≡◌, refl, sym, ap, ◌∙◌}
+use mathlib.Core.Path.{◌≡◌, refl, ap, ◌∙◌}
 use mathlib.Core.Bool.{true, true≢false}
 use native.Mathlib.Omega.{arith}
 use lib.ListN.{length}
-use lib.Seq.{length-take-le}
 use borrow.Author.Rules.{rules}
 use Rattle.answer.specs.Outcome.{header_values}
 use Rattle.lines.specs.Report.{report_lines, line_at}
 use Rattle.lines.specs.Steps.{Due}
-use Rattle.report.proofs.Rounds.{line-fits, line_taken, goes, goes-less}
+use Rattle.report.proofs.Rounds.{goes, goes-less}
 use Rattle.report.proofs.report_study.Goals as goal
 
 pub loop-more-init : goal.loop-more-init
 loop-more-init g c =
-    (refl, refl, record { on = λ _. (c.requires.begun.1, rw c.requires.begun.0 c.requires.line_room_in_bounds.2); ended = λ q. absurd (true≢false q) })
+    (refl, record { on = λ _. (c.requires.begun.1, rw c.requires.begun.0 c.requires.due.1); ended = λ q. absurd (true≢false q) })
 
-pub study_line-line-requires : goal.study_line-line-requires
-study_line-line-requires g c =
+pub study_line-row-requires : goal.study_line-row-requires
+study_line-row-requires g c =
     let due : (c.loop-more.sent.whole ≡ true) × Due c.args.file.now (header_values c.args.h) c.lines-i.result c.loop-more.tally =
-    let on = c.loop-more.invariant.2.on c.loop-more-test.true in (on.0, rw c.lines-i.ensures on.1) in
-    (omega (arith, c.requires.line_room_in_bounds.0, c.loop-more.invariant.1), c.requires.line_room_in_bounds.1, due.1)
-
-pub slice_bounds-write_line-end : goal.slice_bounds-write_line-end
-slice_bounds-write_line-end g c =
-    let k = c.study_line-line in
-    line-fits (line_at c.args.file.now c.lines-i.result) c.loop-more.out k.new.out k.result.length k.ensures.slice k.ensures.end
-
-pub slice_bounds-write_line-end-in-loop-more : goal.slice_bounds-write_line-end-in-loop-more
-slice_bounds-write_line-end-in-loop-more g c =
-    let k = c.study_line-line in
-    sym (length-take-le k.result.length k.new.out (line-fits (line_at c.args.file.now c.lines-i.result) c.loop-more.out k.new.out k.result.length k.ensures.slice k.ensures.end))
+    let on = c.loop-more.invariant.1.on c.loop-more-test.true in (on.0, rw c.lines-i.ensures on.1) in
+    (c.requires.due.0, due.1)
 
 pub write_line-sent-requires : goal.write_line-sent-requires
 write_line-sent-requires g c =
     let due : (c.loop-more.sent.whole ≡ true) × Due c.args.file.now (header_values c.args.h) c.lines-i.result c.loop-more.tally =
-    let on = c.loop-more.invariant.2.on c.loop-more-test.true in (on.0, rw c.lines-i.ensures on.1) in
-    let k = c.study_line-line in
+    let on = c.loop-more.invariant.1.on c.loop-more-test.true in (on.0, rw c.lines-i.ensures on.1) in
+    let k = c.study_line-row in
     let e = c.lines-i.ensures in
-    (due.0, omega (arith, due.1.line, e), line_taken (line_at c.args.file.now c.lines-i.result) c.loop-more.out k.new.out k.result.length k.ensures.slice k.ensures.end ∙ ap (line_at c.args.file.now) e)
+    (due.0, omega (arith, due.1.line, e), c.as_bytes.ensures.value ∙ c.deref.ensures.0 ∙ k.ensures.line ∙ ap (line_at c.args.file.now) e)
 
 pub loop-more-smaller : goal.loop-more-smaller
 loop-more-smaller g c =
     let due : (c.loop-more.sent.whole ≡ true) × Due c.args.file.now (header_values c.args.h) c.lines-i.result c.loop-more.tally =
-    let on = c.loop-more.invariant.2.on c.loop-more-test.true in (on.0, rw c.lines-i.ensures on.1) in
+    let on = c.loop-more.invariant.1.on c.loop-more-test.true in (on.0, rw c.lines-i.ensures on.1) in
     let w = c.write_line-sent in
     let e = c.lines-i.ensures in
-    rw (c.whole.ensures, c.loop-more-test.true) (goes-less (length (report_lines c.args.file.now)) c.loop-more.sent.lines w.result.lines c.study_line-line.result.more w.result.whole (omega (arith, due.1.line, e)) w.ensures)
+    rw (c.whole.ensures, c.loop-more-test.true) (goes-less (length (report_lines c.args.file.now)) c.loop-more.sent.lines w.result.lines c.study_line-row.result.more w.result.whole (omega (arith, due.1.line, e)) w.ensures)
 
 pub loop-more-preserved : goal.loop-more-preserved
 loop-more-preserved g c =
     let due : (c.loop-more.sent.whole ≡ true) × Due c.args.file.now (header_values c.args.h) c.lines-i.result c.loop-more.tally =
-    let on = c.loop-more.invariant.2.on c.loop-more-test.true in (on.0, rw c.lines-i.ensures on.1) in
+    let on = c.loop-more.invariant.1.on c.loop-more-test.true in (on.0, rw c.lines-i.ensures on.1) in
     let w = c.write_line-sent in
-    let k = c.study_line-line in
+    let k = c.study_line-row in
     let e = c.lines-i.ensures in
-    (search rules, search rules, rw c.whole.ensures (goes c.args.file.now (header_values c.args.h) k.new.tally c.lines-i.result w.result.lines k.result.more w.result.whole due.1.line k.ensures.next (omega (arith, w.ensures, e))))
+    (search rules, rw c.whole.ensures (goes c.args.file.now (header_values c.args.h) k.new.tally c.lines-i.result w.result.lines k.result.more w.result.whole due.1.line k.ensures.next (omega (arith, w.ensures, e))))
 
 pub returns : goal.returns
-returns g c = c.loop-more.invariant.2.ended c.loop-more-test.false
+returns g c = c.loop-more.invariant.1.ended c.loop-more-test.false

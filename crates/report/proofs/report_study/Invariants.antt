@@ -9,7 +9,7 @@ use Rattle.report.proofs.Rounds.{Going}
 use Rattle.report.proofs.report_study.Given as goal
 
 abbrev pub invariant-loop-more : goal.invariant-loop-more
-invariant-loop-more g l = (length l.tally ≡ length l.initial.tally) × (length l.out ≡ length l.initial.out) × Going l.file (header_values l.h) l.tally l.sent.lines l.sent.whole l.more
+invariant-loop-more g l = (length l.tally ≡ length l.initial.tally) × Going l.file (header_values l.h) l.tally l.sent.lines l.sent.whole l.more
 
 abbrev pub decreases-loop-more : goal.decreases-loop-more
 decreases-loop-more g l = length (report_lines l.file) - l.sent.lines + flag l.more

@@ -6,17 +6,8 @@ use Rattle.search.proofs.fill.Goals as goal
 pub loop-v-init : goal.loop-v-init
 loop-v-init c = fill_none c.args.at c.args.past c.requires.0
 
-pub overflow_add-capacities : goal.overflow_add-capacities
-overflow_add-capacities c = omega (arith, c.requires)
-
-pub bounds-capacities-at : goal.bounds-capacities-at
-bounds-capacities-at c = omega (arith, c.loop-v.invariant.half, c.loop-v.invariant.size)
-
 pub loop-v-preserved : goal.loop-v-preserved
 loop-v-preserved c = fill-again c.loop-v.invariant (omega arith)
-
-pub shape_of-capacities : goal.shape_of-capacities
-shape_of-capacities c = c.loop-v.invariant.size
 
 pub returns : goal.returns
 returns c = record { long = c.loop-v.invariant.size; filled = λ v b. c.loop-v.invariant.done v (omega arith); kept = c.loop-v.invariant.kept }

@@ -1,10 +1,6 @@
 -- `search::fill` fills a half of the slice from its first place on.
 use Rattle.search.proofs.Places.{Filling}
-use Prim.Native.Nat.{◌-◌}
 use Rattle.search.proofs.fill.Given as goal
 
 abbrev pub invariant-loop-v : goal.invariant-loop-v
 invariant-loop-v l = Filling l.initial.capacities l.at l.past l.capacities l.v
-
-abbrev pub decreases-loop-v : goal.decreases-loop-v
-decreases-loop-v l = l.size - l.v

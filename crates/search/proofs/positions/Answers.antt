@@ -1,36 +1,18 @@
 -- `search::positions` fills in the places of an order from the last to the first.
 use Rattle.search.proofs.Places.{place_none, inside, place-again, placed}
-use mathlib.Core.Path.{refl, ◌∙◌}
-use Prim.Native.Nat.{◌-◌}
+use mathlib.Core.Path.{◌≡◌, refl, ◌∙◌}
+use Prim.Native.Nat.{◌+◌, ◌-◌}
 use native.Mathlib.Omega.{arith}
 use Rattle.search.proofs.positions.Goals as goal
 
-pub fill-requires : goal.fill-requires
-fill-requires c = c.requires.half
-
 pub loop-k-init : goal.loop-k-init
 loop-k-init c = place_none c.requires.few.0 (rw c.fill.ensures.long c.requires.few.1) (rw c.fill.ensures.long c.requires.half.0) refl (rw c.fill.ensures.long c.fill.ensures.filled) (λ i b. refl)
-
-pub overflow_cast-capacities : goal.overflow_cast-capacities
-overflow_cast-capacities c = omega (arith, c.loop-k.invariant.upto, c.loop-k.invariant.small)
-
-pub offset_bounds-order-j : goal.offset_bounds-order-j
-offset_bounds-order-j c = omega (arith, c.loop-k.invariant.upto, c.loop-k.invariant.small)
-
-pub bounds-order-j : goal.bounds-order-j
-bounds-order-j c = omega (arith, c.loop-k.invariant.upto)
-
-pub overflow_add-capacities : goal.overflow_add-capacities
-overflow_add-capacities c = omega (arith, inside c.loop-k.invariant (c.loop-k.k - 1) (omega arith) _ refl, c.loop-k.invariant.half, c.requires.half.1)
 
 pub bounds-capacities-at : goal.bounds-capacities-at
 bounds-capacities-at c = (inside c.loop-k.invariant (c.loop-k.k - 1) (omega arith) _ refl).1
 
 pub loop-k-preserved : goal.loop-k-preserved
-loop-k-preserved c = place-again c.loop-k.invariant (c.loop-k.k - 1) (omega arith) _ refl
-
-pub shape_of-capacities : goal.shape_of-capacities
-shape_of-capacities c = c.loop-k.invariant.size ∙ c.fill.ensures.long
+loop-k-preserved c = let e : c.loop-k.k - 1 + 1 ≡ c.loop-k.k = omega arith in rw e (place-again c.loop-k.invariant (c.loop-k.k - 1) (omega arith) _ refl)
 
 pub returns : goal.returns
 returns c = let l = c.loop-k.invariant in record { long = l.size ∙ c.fill.ensures.long; placed = λ v b. placed l (omega arith) v (rw c.fill.ensures.long b); kept = λ i b. l.kept i b ∙ c.fill.ensures.kept i b }

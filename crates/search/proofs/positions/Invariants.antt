@@ -4,6 +4,3 @@ use Rattle.search.proofs.positions.Given as goal
 
 abbrev pub invariant-loop-k : goal.invariant-loop-k
 invariant-loop-k l = Placing l.order l.at l.initial.capacities l.capacities l.k
-
-abbrev pub decreases-loop-k : goal.decreases-loop-k
-decreases-loop-k l = l.k

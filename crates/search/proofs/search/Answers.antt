@@ -4,6 +4,7 @@ use mathlib.Core.List.{[], ◌∷◌}
 use Prim.Native.Nat.{◌≤◌}
 use native.Mathlib.Omega.{arith}
 use lib.ListN.{length}
+use lib.Seq.{length-take-le}
 use Rattle.answer.specs.Outcome.{success, outcome, opened, header_values}
 use Rattle.answer.proofs.Outcomes.{refused_as, success-as}
 use Rattle.answer.proofs.Fills.{fill-refused, fill-delivered}
@@ -29,17 +30,17 @@ slice_bounds-search_round-end c =
     let opens : outcome (round_tests c.args.file.now c.args.round) (open_values c.args.file.now) ≡ success (header_values c.in-Ok.h) = sym c.open_orders.ensures ∙ ap opened c.in-Ok.is in
     let part : c.round_at-bytes.result.now ≡ round_in c.args.file.now c.args.round = c.round_at-bytes.ensures.bytes ∙ round-part c.args.file.now _ c.args.round (round-check c.args.file.now _ c.args.round (opens)) in
     let within : c.in-Ok.h.n1 ≤ length c.round_at-bytes.result.now = omega (arith, ap length (part), orders-long c.args.file.now _ c.args.round (opens)) in
-    omega (arith, within)
+    sym (length-take-le c.in-Ok.h.n1 c.round_at-bytes.result.now within)
 
-pub slice_bounds-search_round-count-in-Ok : goal.slice_bounds-search_round-count-in-Ok
-slice_bounds-search_round-count-in-Ok c =
+pub slice_bounds-search_round-count : goal.slice_bounds-search_round-count
+slice_bounds-search_round-count c =
     let opens : outcome (round_tests c.args.file.now c.args.round) (open_values c.args.file.now) ≡ success (header_values c.in-Ok.h) = sym c.open_orders.ensures ∙ ap opened c.in-Ok.is in
     let part : c.round_at-bytes.result.now ≡ round_in c.args.file.now c.args.round = c.round_at-bytes.ensures.bytes ∙ round-part c.args.file.now _ c.args.round (round-check c.args.file.now _ c.args.round (opens)) in
     let within : c.in-Ok.h.n1 ≤ length c.round_at-bytes.result.now = omega (arith, ap length (part), orders-long c.args.file.now _ c.args.round (opens)) in
     omega (arith, within)
 
-pub slice_bounds-search_round-start-in-Ok : goal.slice_bounds-search_round-start-in-Ok
-slice_bounds-search_round-start-in-Ok c =
+pub slice_bounds-search_round-start : goal.slice_bounds-search_round-start
+slice_bounds-search_round-start c =
     let opens : outcome (round_tests c.args.file.now c.args.round) (open_values c.args.file.now) ≡ success (header_values c.in-Ok.h) = sym c.open_orders.ensures ∙ ap opened c.in-Ok.is in
     let part : c.round_at-bytes.result.now ≡ round_in c.args.file.now c.args.round = c.round_at-bytes.ensures.bytes ∙ round-part c.args.file.now _ c.args.round (round-check c.args.file.now _ c.args.round (opens)) in
     let within : c.in-Ok.h.n1 ≤ length c.round_at-bytes.result.now = omega (arith, ap length (part), orders-long c.args.file.now _ c.args.round (opens)) in

@@ -7,4 +7,4 @@ use Rattle.sweep.proofs.collect.Goals as goal
 pub put-requires : goal.put-requires
 put-requires c =
     let rises : let a = c.args in a.last.0 < a.p.p2.0 = leb-false _ _ (sym c.at_least.ensures ∙ c.if-at_least.false) in
-    c.requires.1 (rises)
+    c.requires rises

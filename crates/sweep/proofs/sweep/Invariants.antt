@@ -8,8 +8,8 @@ use Rattle.sweep.specs.Steps.{Sweepable}
 use Rattle.sweep.proofs.Turns.{Sweeping}
 use Rattle.sweep.proofs.sweep.Given as goal
 
-abbrev pub invariant-loop-begin : goal.invariant-loop-begin
-invariant-loop-begin l = ((f : Graph) → Sweepable f l.capacities l.links l.order l.n2 l.begin → Sweeping f l.capacities l.links l.order l.label l.stack l.wait l.found l.x.0 l.node l.last.0) × (length l.label ≡ length l.initial.label) × (length l.stack ≡ length l.initial.stack) × (length l.wait ≡ max_position + 1)
+abbrev pub invariant-loop-next : goal.invariant-loop-next
+invariant-loop-next l = ((f : Graph) → Sweepable f l.net l.order l.n2 l.begin → Sweeping f l.net.capacities.now l.net.links.now l.order l.label l.stack l.wait l.found l.x.0 l.node l.last.0) × (length l.wait ≡ max_position + 1)
 
-abbrev pub decreases-loop-begin : goal.decreases-loop-begin
-decreases-loop-begin l = l.x.0
+abbrev pub decreases-loop-next : goal.decreases-loop-next
+decreases-loop-next l = l.x.0
