@@ -1,7 +1,7 @@
 -- `search::positions` fills in the places of an order from the last to the first.
 use Rattle.search.proofs.Places.{place_none, inside, place-again, placed}
-use mathlib.Core.Path.{◌≡◌, refl, ◌∙◌}
-use Prim.Native.Nat.{◌+◌, ◌-◌}
+use mathlib.Core.Path.{refl, ◌∙◌}
+use Prim.Native.Nat.{◌-◌}
 use native.Mathlib.Omega.{arith}
 use Rattle.search.proofs.positions.Goals as goal
 
