@@ -5,12 +5,62 @@
 mod cases;
 mod plain;
 
+ghost use Rattle.std.specs.Prelude.{◌≤◌};
+
 use answer::Refusal;
 use std::io;
-use test_support::line;
+
+#[derive(Clone, Copy)]
+enum Join {
+    Series,
+    Parallel,
+}
+
+impl Join {
+    fn call(self, left: &[u8], right: &[u8], out: &mut [u8]) -> Result<usize, Refusal> {
+        match self {
+            Join::Series => compose::series(left, right, out),
+            Join::Parallel => compose::parallel(left, right, out),
+        }
+    }
+
+    // The call's answer, a length or a refusal's number; none where it is not that of the plain
+    // check. A refusal leaves the slice as it was.
+    fn held(self, left: &[u8], right: &[u8], room: usize) -> Option<Result<usize, u32>>
+        requires { room ≤ 160 }
+    {
+        let mut out = [165u8; 160];
+        let mut want = [165u8; 160];
+        let got = self.call(left, right, &mut out[..room]).map_err(u32::from);
+        let due = match self.plain(left, right) {
+            Ok(record) if room < record.len() => Err(15),
+            Ok(record) => {
+                want[..record.len()].copy_from_slice(&record);
+                Ok(record.len())
+            }
+            Err(number) => Err(number),
+        };
+        ((got == due) & (out == want)).then_some(got)
+    }
+
+    // The case of a seed.
+    fn one(self, seed: u64) -> Option<Result<usize, u32>> {
+        let left = cases::make(seed);
+        let right = cases::partner(seed, &left);
+        self.held(&left, &right, cases::room(seed))
+    }
+
+    fn run(self) -> Counts {
+        let mut counts = Counts::default();
+        for i in 0..4000 {
+            counts.note(self.one(test_support::seed(i)));
+        }
+        counts
+    }
+}
 
 // What a run has seen.
-#[derive(Clone, Copy)]
+#[derive(Clone, Copy, Default)]
 struct Counts {
     tried: u64,
     written: u64,
@@ -20,122 +70,34 @@ struct Counts {
     wrong: u64,
 }
 
-fn answer_of(w: Result<usize, Refusal>) -> u64 {
-    match w {
-        // More than a slice here can hold is an answer that nothing expects.
-        Ok(n) => {
-            if n > 160 {
-                return 0;
-            }
-            1000 + n as u64
-        }
-        Err(r) => u32::from(r) as u64,
-    }
-}
-
-// The call's answer with the first `room` bytes of out as its output slice.
-fn call(kind: u8, left: &[u8], right: &[u8], out: &mut [u8], room: usize) -> u64 {
-    if out.len() < room {
-        return 0;
-    }
-    if kind == 0 {
-        return answer_of(compose::series(left, right, &mut out[0..room]));
-    }
-    answer_of(compose::parallel(left, right, &mut out[0..room]))
-}
-
-// The expected answer where the output slice has this room.
-fn in_room(expected: u64, room: usize) -> u64 {
-    if expected < 1000 {
-        return expected;
-    }
-    if (room as u64) < expected - 1000 {
-        return 15;
-    }
-    expected
-}
-
-// One call of series (kind 0) or parallel (kind 1), held to the plain check: its answer, or 0.
-fn held(kind: u8, left: &[u8], right: &[u8], room: usize) -> u64 {
-    let untouched = [165u8; 160];
-    let mut out = [165u8; 160];
-    let mut want = [165u8; 160];
-    let whole = plain::join(kind, left, right, &mut want);
-    let got = call(kind, left, right, &mut out, room);
-    if got != in_room(whole, room) {
-        return 0;
-    }
-    // A refusal leaves the slice as it was.
-    if got < 1000 {
-        return if_so(test_support::equal(&out, &untouched), got);
-    }
-    if_so(test_support::equal(&out, &want), got)
-}
-
-// The case of a seed.
-fn one(seed: u64, kind: u8) -> u64 {
-    let mut left = [0u8; 160];
-    let mut right = [0u8; 160];
-    let l = cases::make(seed, &mut left);
-    let r = cases::partner(seed, &left, &mut right);
-    held(kind, &left[0..l], &right[0..r], cases::room(seed))
-}
-
-fn if_so(so: bool, n: u64) -> u64 {
-    if so {
-        return n;
-    }
-    0
-}
-
 // One more where the test holds.
-fn more(n: u64, test: bool) -> u64 {
-    if test {
-        return n % 1000000 + 1;
-    }
-    n
+fn tick(count: &mut u64, test: bool) {
+    *count = count.saturating_add(u64::from(test));
 }
 
-fn counted(c: Counts, got: u64) -> Counts {
-    Counts {
-        tried: more(c.tried, true),
-        written: more(c.written, got >= 1000),
-        refused12: more(c.refused12, got == 12),
-        refused13: more(c.refused13, got == 13),
-        refused15: more(c.refused15, got == 15),
-        wrong: more(c.wrong, got == 0),
+impl Counts {
+    fn note(&mut self, answer: Option<Result<usize, u32>>) {
+        tick(&mut self.tried, true);
+        tick(&mut self.written, matches!(answer, Some(Ok(_))));
+        tick(&mut self.refused12, answer == Some(Err(12)));
+        tick(&mut self.refused13, answer == Some(Err(13)));
+        tick(&mut self.refused15, answer == Some(Err(15)));
+        tick(&mut self.wrong, answer.is_none());
     }
-}
 
-fn run(kind: u8) -> Counts {
-    let mut c = Counts {
-        tried: 0,
-        written: 0,
-        refused12: 0,
-        refused13: 0,
-        refused15: 0,
-        wrong: 0,
-    };
-    let mut i: u64 = 0;
-    while i < 4000 {
-        c = counted(c, one(test_support::seed(i), kind));
-        i += 1;
+    fn show(&self, rt: &impl Print) -> io::Result<()> {
+        println!(rt; "  calls {}", self.tried)?;
+        println!(rt; "  written {}", self.written)?;
+        println!(rt; "  refused 12 {}", self.refused12)?;
+        println!(rt; "  refused 13 {}", self.refused13)?;
+        println!(rt; "  refused 15 {}", self.refused15)?;
+        println!(rt; "  wrong {}", self.wrong)
     }
-    c
-}
-
-fn report(rt: &impl Print, c: Counts) -> io::Result<()> {
-    line(rt, b"  calls ", c.tried)?;
-    line(rt, b"  written ", c.written)?;
-    line(rt, b"  refused 12 ", c.refused12)?;
-    line(rt, b"  refused 13 ", c.refused13)?;
-    line(rt, b"  refused 15 ", c.refused15)?;
-    line(rt, b"  wrong ", c.wrong)
 }
 
 fn main(rt: HostRuntime) -> io::Result<()> {
-    rt.write_all(b"series\n")?;
-    report(&rt, run(0))?;
-    rt.write_all(b"parallel\n")?;
-    report(&rt, run(1))
+    println!(rt; "series")?;
+    Join::Series.run().show(&rt)?;
+    println!(rt; "parallel")?;
+    Join::Parallel.run().show(&rt)
 }

@@ -1,107 +1,81 @@
 // The plain check: a record's cells one by one, and the corners of what holds.
-ghost use Rattle.std.specs.Prelude.{◌≤◌, ◌<◌};
+ghost use Rattle.std.specs.Prelude.{◌≤◌, ◌<◌, IfSome};
 
-use test_support::{byte, poke};
+use crate::Join;
+use crate::cases::{Bytes, bytes_of};
+use arrayvec::ArrayVec;
+
+fn pairs(bytes: &[u8]) -> &[[u8; 2]] {
+    bytes.get(3..).unwrap_or(&[]).as_chunks().0
+}
 
 // Whether some pair of the bytes is above a in p1 and above b in p2.
-fn cell(bytes: &[u8], a: u64, b: u64) -> bool {
-    let mut at = 3;
-    while at < bytes.len() {
-        if (a < byte(bytes, at)) & (b < byte(bytes, at + 1)) {
-            return true;
+fn cell(bytes: &[u8], a: u8, b: u8) -> bool {
+    pairs(bytes)
+        .iter()
+        .any(|pair| (a < pair[0]) & (b < pair[1]))
+}
+
+// Document 01's record paragraph, clause by clause: the sizes of a record; none where the bytes are
+// no record.
+fn sizes(bytes: &[u8]) -> Option<(u8, u8)>
+    ensures { IfSome result (λ sizes. (sizes.0 ≤ 64) × (sizes.1 ≤ 64)) }
+{
+    let &[n1, n2, k, ..] = bytes else {
+        return None;
+    };
+    if (64 < n1) | (64 < n2) {
+        return None;
+    }
+    let most1 = n1 + 1;
+    let most2 = n2 + 1;
+    let pairs = pairs(bytes);
+    let counts = (bytes.len() == 3 + 2 * k as usize) & (k <= most1) & (k <= most2);
+    let within = pairs.iter().all(|pair| {
+        (1 <= pair[0]) & (pair[0] <= most1) & (1 <= pair[1]) & (pair[1] <= most2)
+    });
+    let falling = pairs.array_windows::<2>().all(|[before, after]| (after[0] < before[0])
+        & (before[1] < after[1]));
+    (counts & within & falling).then_some((n1, n2))
+}
+
+impl Join {
+    // Whether the joined plan holds at a cell.
+    fn cell(self, left: &[u8], right: &[u8], a: u8, b: u8) -> bool {
+        let x = cell(left, a, b);
+        let y = cell(right, a, b);
+        match self {
+            Join::Series => x & y,
+            Join::Parallel => x | y,
         }
-        at += 2;
     }
-    false
-}
 
-// Whether the pair at `at` is within the sizes, and before the next pair if there is one.
-fn pair(bytes: &[u8], at: usize) -> bool
-    requires { at < 1000 }
-{
-    let x = byte(bytes, at);
-    let y = byte(bytes, at + 1);
-    let within = (1 <= x) & (x <= byte(bytes, 0) + 1) & (1 <= y) & (y <= byte(bytes, 1) + 1);
-    let last = bytes.len() <= at + 3;
-    within & (last | ((byte(bytes, at + 2) < x) & (y < byte(bytes, at + 3))))
-}
-
-// Document 01's record paragraph, clause by clause.
-fn is_record(bytes: &[u8]) -> bool {
-    let n1 = byte(bytes, 0);
-    let n2 = byte(bytes, 1);
-    let k = byte(bytes, 2);
-    let sizes = (3 <= bytes.len()) & (n1 <= 64) & (n2 <= 64);
-    let counts = (bytes.len() as u64 == 3 + 2 * k) & (k <= n1 + 1) & (k <= n2 + 1);
-    let mut good = sizes & counts;
-    let mut i: u64 = 0;
-    while i < k {
-        good = good & pair(bytes, 3 + 2 * i as usize);
-        i += 1;
+    // Whether a cell of the joined plan holds while the next in each class does not.
+    fn corner(self, left: &[u8], right: &[u8], a: u8, b: u8) -> bool
+        requires { (a < 255) × (b < 255) }
+    {
+        self.cell(left, right, a, b)
+            & !self.cell(left, right, a + 1, b)
+            & !self.cell(left, right, a, b + 1)
     }
-    good
-}
 
-// Whether the joined plan holds at a cell.
-fn joined(kind: u8, left: &[u8], right: &[u8], a: u64, b: u64) -> bool {
-    if kind == 0 {
-        return cell(left, a, b) & cell(right, a, b);
-    }
-    cell(left, a, b) | cell(right, a, b)
-}
-
-// Whether a cell of the joined plan holds while the next in each class does not.
-fn corner(kind: u8, left: &[u8], right: &[u8], a: u64, b: u64) -> bool
-    requires { (a < 256) × (b < 256) }
-{
-    joined(kind, left, right, a, b)
-        & !joined(kind, left, right, a + 1, b)
-        & !joined(kind, left, right, a, b + 1)
-}
-
-// The corners of a row of cells, written as pairs after the k that stand, and their count with those.
-fn corners(kind: u8, left: &[u8], right: &[u8], a: u64, out: &mut [u8], k: usize) -> usize
-    requires { (a < 256) × (k ≤ 66) }
-    ensures { result ≤ 66 }
-{
-    let end = byte(left, 1) + 1;
-    let mut count = k;
-    let mut next: u64 = 0;
-    while next < end {
-        let b = next;
-        next += 1;
-        if !corner(kind, left, right, a, b) {
-            continue;
+    // The record of all corners, or 12 or 13.
+    pub(crate) fn plain(self, left: &[u8], right: &[u8]) -> Result<Bytes, u32> {
+        let (Some((n1, n2)), Some(other)) = (sizes(left), sizes(right)) else {
+            return Err(12);
+        };
+        if other != (n1, n2) {
+            return Err(13);
         }
         // No record has more pairs than 65: one more shows as a wrong length.
-        if 65 < count {
-            continue;
+        let mut pairs = ArrayVec::new();
+        for a in (0..=n1).rev() {
+            for b in 0..=n2 {
+                if self.corner(left, right, a, b) {
+                    let _ = pairs.try_push([a + 1, b + 1]);
+                }
+            }
         }
-        poke(out, 3 + 2 * count, a + 1);
-        poke(out, 4 + 2 * count, b + 1);
-        count += 1;
+        Ok(bytes_of(n1, n2, &pairs))
     }
-    count
-}
-
-// 12, 13, or 1000 and the length of the record of all corners, which is written.
-pub(crate) fn join(kind: u8, left: &[u8], right: &[u8], out: &mut [u8]) -> u64
-    ensures { result < 2000 }
-{
-    if !is_record(left) | !is_record(right) {
-        return 12;
-    }
-    if (byte(left, 0) != byte(right, 0)) | (byte(left, 1) != byte(right, 1)) {
-        return 13;
-    }
-    poke(out, 0, byte(left, 0));
-    poke(out, 1, byte(left, 1));
-    let mut k: usize = 0;
-    let mut a = byte(left, 0) + 1;
-    while 0 < a {
-        a -= 1;
-        k = corners(kind, left, right, a, out, k);
-    }
-    poke(out, 2, k as u64);
-    1003 + 2 * k as u64
 }

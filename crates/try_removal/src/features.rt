@@ -1,100 +1,58 @@
 // What generated studies have, counted.
-ghost use Rattle.std.specs.Prelude.{◌≤◌, ◌<◌, length};
+use crate::counts::{Features, add, tick};
+use crate::made::Study;
+use test_networks::{of_class, of_kind, parallel};
 
-use crate::Case;
-use test_networks::{of_kind, parallel};
-use test_plans::slots;
-use test_plans::slots::tick;
-use test_removal::of_class;
-use test_support::{byte, flag};
-
-// ---- ends
-// Which fail: neither, one, two of one class, one of each.
-fn ends_are(source: u64, target: u64) -> usize {
-    if (source == 0) & (target == 0) {
-        return slots::NEITHER;
-    }
-    if (source == 0) | (target == 0) {
-        return slots::ONE_END;
-    }
-    if source == target {
-        slots::ONE_CLASS
-    } else {
-        slots::BOTH_CLASSES
+// Which ends fail: neither, one, two of one class, one of each.
+fn note_ends(source: u8, target: u8, features: &mut Features) {
+    match (source, target) {
+        (0, 0) => tick(&mut features.neither_end, true),
+        (0, _) | (_, 0) => tick(&mut features.one_end, true),
+        _ => {
+            tick(&mut features.one_class, source == target);
+            tick(&mut features.both_classes, source != target);
+        }
     }
 }
 
-// Whether a node of this class fails, and nothing else does of it.
-fn alone(class: u64, c: Case) -> bool {
-    ((class == 1) & (c.n1 == 1)) | ((class == 2) & (c.n2 == 1))
-}
-
-fn note_ends(source: u64, target: u64, c: Case, counts: &mut [u64]) {
-    tick(counts, ends_are(source, target), 1);
-    tick(
-        counts,
-        slots::ALONE,
-        flag(alone(source, c) | alone(target, c)),
-    );
-}
-
-// ---- arcs
-// How many arcs of a class there are.
-fn failing(arcs: &[u8], class: u64) -> u64
-    requires { (length arcs.now ≤ 10000) × (class < 256) }
-    ensures { result ≤ 20000 }
-{
-    if class == 0 {
-        return 0;
-    }
-    of_kind(arcs, class) + of_kind(arcs, class + 3)
+// Whether arcs of a class fail.
+fn arcs_fail(study: &Study, class: u8) -> bool {
+    (class != 0) & study.arcs.iter().any(|arc| arc.class == class)
 }
 
 // Whether a class has 64 members, nodes and arcs.
-fn both_sorts(nodes: &[u8], arcs: &[u8], class: u64, size: usize) -> bool
-    requires { (length arcs.now ≤ 10000) × (class < 256) }
-{
-    (size == 64) & (0 < failing(arcs, class)) & (0 < of_class(nodes, b"", class))
-}
-
-fn note_kinds(arcs: &[u8], counts: &mut [u64])
-    requires { length arcs.now ≤ 10000 }
-{
-    let mut k: usize = 0;
-    while k < 6 {
-        tick(counts, slots::KINDS + k, of_kind(arcs, k as u64));
-        k += 1;
-    }
-    let all = of_kind(arcs, 0) == (arcs.len() / 3) as u64;
-    tick(counts, slots::KIND_0, flag(all));
-    tick(counts, slots::PARALLEL, flag(parallel(arcs)));
+fn both_sorts(study: &Study, class: u8) -> bool {
+    (study.size(class) == 64) & arcs_fail(study, class) & study.made.nodes.contains(&class)
 }
 
 // Whether only arcs fail.
-fn arcs_alone(nodes: &[u8], arcs: &[u8]) -> bool
-    requires { length arcs.now ≤ 10000 }
-{
-    let none = of_class(nodes, b"", 1) + of_class(nodes, b"", 2) == 0;
-    none & ((0 < failing(arcs, 1)) | (0 < failing(arcs, 2)))
+fn arcs_alone(study: &Study) -> bool {
+    study.made.nodes.iter().all(|class| *class == 0) & (arcs_fail(study, 1) | arcs_fail(study, 2))
 }
 
-fn note_members(nodes: &[u8], arcs: &[u8], c: Case, counts: &mut [u64])
-    requires { length arcs.now ≤ 10000 }
-{
-    tick(counts, slots::ARCS_ALONE, flag(arcs_alone(nodes, arcs)));
-    let full = both_sorts(nodes, arcs, 1, c.n1) | both_sorts(nodes, arcs, 2, c.n2);
-    tick(counts, slots::BOTH_SORTS, flag(full));
+fn note_arcs(study: &Study, features: &mut Features) {
+    let arcs = study.made.arcs.as_slice();
+    for (kind, count) in features.arcs.iter_mut().enumerate() {
+        add(count, of_kind(arcs, kind as u8) as u64);
+    }
+    tick(&mut features.kind_0, of_kind(arcs, 0) == arcs.len());
+    tick(&mut features.parallel, parallel(arcs));
+    tick(&mut features.arcs_alone, arcs_alone(study));
+    tick(
+        &mut features.both_sorts,
+        both_sorts(study, 1) | both_sorts(study, 2),
+    );
 }
 
 // What a study has.
-pub fn note(nodes: &[u8], arcs: &[u8], c: Case, counts: &mut [u64])
-    requires { length arcs.now ≤ 10000 }
-{
-    let source = byte(nodes, c.net.source);
-    let target = byte(nodes, c.net.target);
-    let ends = (0 < failing(arcs, source)) | (0 < failing(arcs, target));
-    tick(counts, slots::END_AND_ARC, flag(ends));
-    note_ends(source, target, c, counts);
-    note_kinds(arcs, counts);
-    note_members(nodes, arcs, c, counts);
+pub(crate) fn note(study: &Study, features: &mut Features) {
+    let class = |v: u8| study.made.nodes.get(v as usize).copied().unwrap_or(0);
+    let source = class(study.made.source);
+    let target = class(study.made.target);
+    note_ends(source, target, features);
+    let alone = (study.size(source) == 1) | (study.size(target) == 1);
+    tick(&mut features.alone, alone);
+    let arcs = arcs_fail(study, source) | arcs_fail(study, target);
+    tick(&mut features.end_and_arc, arcs);
+    note_arcs(study, features);
 }
