@@ -1,23 +1,22 @@
--- What `reliability` answers, as the code comes to it; and how near its answer is.
+-- How near the answer of `reliability` is.
 use mathlib.Core.Path.{◌≡◌, sym, ap, ◌∙◌}
-use mathlib.Core.Bool.{Bool, true, false, ◌||◌}
+use mathlib.Core.Bool.{Bool, false, ◌||◌}
 use mathlib.Core.List.Memᴰ
-use mathlib.Core.List.{List, [], ◌∷◌, ◌++◌}
+use mathlib.Core.List.{List, [], ◌∷◌}
 use Prim.Native.Nat.{ℕ, ◌≤◌}
 use native.Mathlib.Nat.{pos_of_ne-zero}
 use lib.Dec.{eqb, ltb}
 use lib.ListN.{get_or}
-use borrow.Author.Tests.{eq-eqb, ne_eqb, eqb-false, ltb-false}
+use borrow.Author.Tests.{eqb-false, ltb-false}
 use Rattle.laws.specs.Tests.{or-none}
 use Rattle.laws.specs.Members.{here, there}
-use Rattle.answer.specs.Outcome.{success, refused, outcome}
-use Rattle.answer.proofs.Outcomes.{outcome-tests, outcome-success, outcome-values, outcome-refused, outcome-passed}
+use Rattle.answer.specs.Outcome.{success}
+use Rattle.answer.proofs.Outcomes.{outcome-tests, outcome-success, outcome-values}
 use Rattle.chance.specs.Chance.{rate_r, Near}
-use Rattle.soundness.specs.Tally.{tally_size1, tally_size2, rounds, cell, state_tests, state_answer}
+use Rattle.soundness.specs.Tally.{tally_size1, tally_size2, rounds, cell, state_tests}
 use Rattle.chance.proofs.Bounds.{near-formula}
 use Rattle.soundness.proofs.States.{state-sound}
 use Rattle.reliability.specs.Calls.{tally_s, rate_tests, rate_answer}
-use Rattle.reliability.specs.Steps.{Ratable}
 
 both_small : (p1 p2 : ℕ) → ltb 1000000 p1 || ltb 1000000 p2 ≡ false → (p1 ≤ 1000000) × (p2 ≤ 1000000)
 both_small p1 p2 e = let k = or-none (ltb 1000000 p1) (ltb 1000000 p2) e in (ltb-false 1000000 p1 k.0, ltb-false 1000000 p2 k.1)
@@ -28,30 +27,6 @@ module _ (t : List ℕ) (p1 p2 : ℕ) where
 
   abbrev last : List (ℕ × Bool)
   last = (25, eqb (rounds t) 0) ∷ []
-
-  pub rate-chances : ltb 1000000 p1 || ltb 1000000 p2 ≡ true → refused 14 ≡ rate_answer t p1 p2
-  rate-chances e = rw e
-
-  module _ (small : ltb 1000000 p1 || ltb 1000000 p2 ≡ false) where
-    by_state : rate_answer t p1 p2 ≡ outcome (state_tests t ++ last) values
-    by_state = rw small
-
-    pub rate-state : (n : ℕ) → state_answer t ≡ refused n → refused n ≡ rate_answer t p1 p2
-    rate-state n e = sym (by_state ∙ outcome-refused (state_tests t) last (0 ∷ []) values n e)
-
-    module _ (fine : state_answer t ≡ success (0 ∷ [])) where
-      rest : rate_answer t p1 p2 ≡ outcome last values
-      rest = by_state ∙ outcome-passed (state_tests t) last (0 ∷ []) values fine
-
-      pub rate-none : rounds t ≡ 0 → refused 25 ≡ rate_answer t p1 p2
-      rate-none e = sym (rest ∙ rw (eq-eqb (rounds t) 0 e))
-
-      module _ (some : rounds t ≡ 0 → ⊥) where
-        pub ratable : Ratable t p1 p2
-        ratable = let k = both_small p1 p2 small in record { fine = fine; ok1 = k.0; ok2 = k.1; some = pos_of_ne-zero some }
-
-        pub rate-done : success values ≡ rate_answer t p1 p2
-        rate-done = sym (rest ∙ rw (ne_eqb (rounds t) 0 some))
 
   -- DEMAND 2 of a tally, from the call's answer
   pub near : (s m r : ℕ) → rate_answer t p1 p2 ≡ success (s ∷ m ∷ r ∷ []) → (m ≡ rounds t) × Near (tally_size1 t) (tally_size2 t) p1 p2 (cell t) s m r

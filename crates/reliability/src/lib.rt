@@ -19,10 +19,8 @@ fn row(cells: &[u32], at: usize, v: &[u32], n: usize) -> u64
     ensures { result ≡ row_sum cells.now at v.now n }
 {
     let mut s: u64 = 0;
-    let mut i = 0;
-    while i < n {
+    for i in 0..n {
         s += v[i] as u64 * cells[at + i] as u64;
-        i += 1;
     }
     s
 }
@@ -36,12 +34,8 @@ fn total(cells: &[u32], u: &[u32], v: &[u32], n1: usize, n2: usize) -> u64
 {
     let w = n2 + 1;
     let mut s: u64 = 0;
-    let mut at = 0;
-    let mut l1 = 0;
-    while l1 <= n1 {
-        s += u[l1] as u64 * row(cells, at, v, w);
-        at += w;
-        l1 += 1;
+    for l1 in 0..=n1 {
+        s += u[l1] as u64 * row(cells, l1 * w, v, w);
     }
     s
 }
@@ -58,12 +52,12 @@ fn rate_of(tally: &[u32], p1: u32, p2: u32) -> Rate
     let mut v = [0u32; MAX_CLASS + 1];
     weights::fill(p1, n1, &mut u);
     weights::fill(p2, n2, &mut v);
-    let s = total(&tally[HEAD..], &u, &v, n1, n2);
-    let m = tally[ROUNDS] as u64;
+    let sum = total(&tally[HEAD..], &u, &v, n1, n2);
+    let rounds = tally[ROUNDS] as u64;
     Rate {
-        sum: s,
-        rounds: m,
-        rate: s / (m * 10000000),
+        sum,
+        rounds,
+        rate: sum / (rounds * 10000000),
     }
 }
 
@@ -74,13 +68,12 @@ pub fn reliability(tally: &[u32], p1: u32, p2: u32) -> Result<Rate, Refusal>
     if (p1 > 1000000) | (p2 > 1000000) {
         return Err(Refusal::Probability);
     }
-    match soundness::check(tally) {
-        Err(r) => Err(r),
-        Ok(()) => {
-            if tally[ROUNDS] == 0 {
-                return Err(Refusal::NoRounds);
-            }
-            Ok(rate_of(tally, p1, p2))
-        }
+    // No `?`: it would call std, whose code `AlwaysEnds` (kinds) cannot open.
+    if let Err(r) = soundness::check(tally) {
+        return Err(r);
     }
+    if tally[ROUNDS] == 0 {
+        return Err(Refusal::NoRounds);
+    }
+    Ok(rate_of(tally, p1, p2))
 }

@@ -27,13 +27,11 @@ fn step(p: u32, m: usize, out: &mut [u32])
     ensures { out.new ≡ spread p 0 (take m out.old) ++ drop (m + 1) out.old }
 {
     let mut carry: u32 = 0;
-    let mut l = 0;
-    while l < m {
+    for l in 0..m {
         let w = out[l];
         let s = share(p, w);
         out[l] = w - s + carry;
         carry = s;
-        l += 1;
     }
     out[m] = carry;
 }
@@ -44,10 +42,8 @@ pub fn fill(p: u32, n: usize, out: &mut [u32])
     ensures { out.new ≡ weights p n ++ drop (n + 1) out.old }
 {
     out[0] = 10000000;
-    let mut i = 0;
-    while i < n {
+    for i in 0..n {
         step(p, i + 1, out);
-        i += 1;
     }
 }
 

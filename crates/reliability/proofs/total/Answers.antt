@@ -1,5 +1,4 @@
 -- `reliability::total` adds one row after another.
-use mathlib.Core.Path.{◌≡◌}
 use Prim.Native.Nat.{◌+◌, ◌*◌, ◌≤◌}
 use native.Mathlib.Omega.{arith}
 use lib.ListN.{get_or}
@@ -7,21 +6,16 @@ use Rattle.laws.specs.Sums.{part-fits}
 use Rattle.soundness.specs.Tally.{width}
 use Rattle.reliability.specs.Steps.{row_sum}
 use Rattle.reliability.proofs.total.Goals as goal
+use Rattle.reliability.proofs.total.Goals.{After-row}
+
+-- one row more fits
+fits : (c : After-row) → c.loop-l1.s + get_or c.args.u.now c.loop-l1.l1 0 * c.row.result ≤ 10000000000000000000
+fits c =
+    let a = c.args in
+    rw (c.loop-l1.invariant, c.row.ensures) (part-fits (a.n1 + 1) 10000000000000000000 c.loop-l1.l1 (λ k. get_or a.u.now k 0 * row_sum a.cells.now (k * width a.n2) a.v.now (width a.n2)) c.requires.6 (omega arith))
 
 pub overflow_mul-s : goal.overflow_mul-s
-overflow_mul-s c =
-    let this-row : let a = c.args in let l = c.loop-l1 in c.row.result ≡ row_sum a.cells.now (l.l1 * width a.n2) a.v.now (width a.n2) = let l = c.loop-l1 in
-    rw (l.invariant.1, l.invariant.3) at c.row.ensures in
-    let fits : let a = c.args in let l = c.loop-l1 in l.s + get_or a.u.now l.l1 0 * c.row.result ≤ 10000000000000000000 =
-    let l = c.loop-l1 in
-    rw (l.invariant.2, this-row) (part-fits (c.args.n1 + 1) 10000000000000000000 l.l1 (λ k. get_or c.args.u.now k 0 * row_sum c.args.cells.now (k * width c.args.n2) c.args.v.now (width c.args.n2)) c.requires.6 (omega arith)) in
-    omega (arith, fits)
+overflow_mul-s c = omega (arith, fits (goal.at.overflow_mul-s c).After-row)
 
 pub overflow_add-s : goal.overflow_add-s
-overflow_add-s c =
-    let this-row : let a = c.args in let l = c.loop-l1 in c.row.result ≡ row_sum a.cells.now (l.l1 * width a.n2) a.v.now (width a.n2) = let l = c.loop-l1 in
-    rw (l.invariant.1, l.invariant.3) at c.row.ensures in
-    let fits : let a = c.args in let l = c.loop-l1 in l.s + get_or a.u.now l.l1 0 * c.row.result ≤ 10000000000000000000 =
-    let l = c.loop-l1 in
-    rw (l.invariant.2, this-row) (part-fits (c.args.n1 + 1) 10000000000000000000 l.l1 (λ k. get_or c.args.u.now k 0 * row_sum c.args.cells.now (k * width c.args.n2) c.args.v.now (width c.args.n2)) c.requires.6 (omega arith)) in
-    omega (arith, fits)
+overflow_add-s c = omega (arith, fits (goal.at.overflow_add-s c).After-row)
