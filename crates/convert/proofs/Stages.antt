@@ -4,14 +4,14 @@ use mathlib.Core.Bool.{Bool, cond, not, ◌&&◌}
 use mathlib.Core.List.{List, [], ◌∷◌, ◌++◌, append-nil}
 use Prim.Native.Nat.{ℕ, ◌+◌, ◌-◌, ◌*◌, ◌≤◌}
 use native.Mathlib.Omega.{arith}
-use borrow.Author.Tests.{ltb-false}
+use borrow.Author.Tests.{ltb-false, le-ltb}
 use lib.Dec.{ltb}
 use lib.ListN.{length, take, drop, length-take, length-drop}
-use Rattle.limits.specs.Limits.{max_class}
+use Rattle.limits.specs.Limits.{max_nodes, max_rounds, max_class, max_round_size}
 use Rattle.laws.specs.Members.{all, here, there}
 use Rattle.laws.specs.Tests.{or-none}
 use Rattle.answer.proofs.Outcomes.{outcome-tests, outcome-refused, outcome-passed}
-use Rattle.answer.specs.Outcome.{success, refused, outcome}
+use Rattle.answer.specs.Outcome.{Outcome, success, refused, outcome}
 use Rattle.orders.specs.Order.{count, is_order_of}
 use Rattle.slices.specs.Bytes.{part_at}
 use Rattle.parts.specs.Study.{pieces, round_size}
@@ -102,3 +102,34 @@ module _ (f : List ℕ) where
       pub last-stage : (h : Trailer) (n1 n2 : ℕ) → h ≡ trailer f → n1 ≡ count 1 (nodes_of f) → n2 ≡ count 2 (nodes_of f)
           → outcome (convert_tests f) (0 ∷ []) ≡ cond (ltb h.dm (h.rounds * (n1 + n2))) (refused 9) (cond (bad_old_orders f) (refused 11) (success (0 ∷ [])))
       last-stage h n1 n2 eh e1 e2 = behind ∙ outcome-passed next_tests last_tests (0 ∷ []) (0 ∷ []) g ∙ sym (rw (eh, e1, e2))
+
+  -- what the code has at hand: the trailer, the bytes of nodes and arcs, how many nodes are of each class, what the first stage found, which passed, and the second
+  module _ (t : Trailer) (nodes arcs : List ℕ) (n1 n2 : ℕ) (found next : Outcome) (eh : t ≡ trailer f) (en : nodes ≡ nodes_of f) (ea : arcs ≡ old_arcs f) (e1 : n1 ≡ count 1 nodes) (e2 : n2 ≡ count 2 nodes)
+      (ef : found ≡ outcome (trailer_tests old_arc_size (length f) t) (0 ∷ [])) (p : found ≡ success (0 ∷ [])) (en2 : next ≡ outcome (old_part_tests (length nodes) nodes arcs) (0 ∷ [])) where
+    begun : outcome first_tests (0 ∷ []) ≡ success (0 ∷ [])
+    begun = ap (λ h. outcome (trailer_tests old_arc_size (length f) h) (0 ∷ [])) (sym eh) ∙ sym ef ∙ p
+
+    second : outcome next_tests (0 ∷ []) ≡ next
+    second = sym (en2 ∙ same_parts begun nodes arcs en ea)
+
+    pub code-refused : (n : ℕ) → next ≡ refused n → refused n ≡ outcome (convert_tests f) (0 ∷ [])
+    code-refused n q = next-refused begun n (second ∙ q)
+
+    one : n1 ≡ count 1 (nodes_of f)
+    one = e1 ∙ ap (count 1) en
+
+    two : n2 ≡ count 2 (nodes_of f)
+    two = e2 ∙ ap (count 2) en
+
+    module _ (q : next ≡ success (0 ∷ [])) where
+      pub code-few : (length nodes ≤ max_nodes) × (length nodes ≤ max_nodes) × (n1 + n2 ≤ max_round_size) × (t.rounds ≤ max_rounds)
+      code-few =
+          let nodes-few : length nodes ≤ max_nodes = omega (arith, ap length en, nodes-length begun, (first_fits begun).nodes-most) in
+          (nodes-few, nodes-few, omega (arith, one, two, next-sizes begun (second ∙ q)), omega (arith, ap (λ (h : Trailer). h.rounds) eh, (first_fits begun).rounds-most))
+
+      -- the last stage, of all rounds as one part
+      pub code-last : (bytes : List ℕ) (bad : Bool) → bytes ≡ part_at (trailer_at f - (trailer f).dm + 0 * (t.rounds * (n1 + n2))) (t.rounds * (n1 + n2)) f
+          → bad ≡ not (all (λ x. is_order_of 1 nodes (take n1 x) && is_order_of 2 nodes (drop n1 x)) (pieces t.rounds (n1 + n2) bytes)) → t.rounds * (n1 + n2) ≤ t.dm
+          → cond bad (refused 11) (success (0 ∷ [])) ≡ outcome (convert_tests f) (0 ∷ [])
+      code-last bytes bad eb er h =
+          sym (last-stage begun (second ∙ q) t n1 n2 eh one two ∙ rw (le-ltb t.dm (t.rounds * (n1 + n2)) h, sym (er ∙ eleven f t n1 n2 eh one two nodes bytes en (eb ∙ rounds-part f t n1 n2 eh one two))))

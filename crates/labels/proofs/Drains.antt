@@ -177,6 +177,12 @@ module _ {f : Graph} {a l : ℕ} {d wait : List ℕ} (w : Work f a l d [] wait 0
             (λ ne. waits (record { below = omega arith; full = x.full; flag = λ q. x.flag (sym (get_or-set_other wait m z 0 0 ne) ∙ q) })) (equal z m))
             (λ lt. absurd (x.flag (n.last z lt x.below))) (order z m)
 
+-- no label is above n2 + 1
+pub label-most : {f : Graph} {a l : ℕ} {d stack wait : List ℕ} {top v i : ℕ} → Work f a l d stack wait top v i → (u : ℕ) → u < length f.entry → get_or d u 0 ≤ suc f.n2
+label-most {f} {d = d} w u h =
+    ⊎_elim (λ (le : get_or d u 0 ≤ 0). omega arith)
+    (λ lt. let g = w.held u lt in omega (arith, g.3, pair-first (graph_network f) u g.0, w.laid.high u h)) (order (get_or d u 0) 0)
+
 pub record Flooding (f : Graph) (capacities links : List ℕ) (a : ℕ) (d₀ stack₀ wait₀ d stack wait : List ℕ) (l v : ℕ) : Type 0 where
   -- the labels, with v alone on the stack
   pub work : Work f a l d (v ∷ []) wait 1 0 0

@@ -35,12 +35,12 @@ fn drain(net: Net, at: Step, label: &mut [u8], stack: &mut [u16], wait: &mut [u1
 
 // The largest level that waits between floor and level.
 fn next_level(wait: &[u16], level: Pos2, floor: Pos2) -> Option<Pos2>
-    requires { (level.0 ≤ max_position) × (max_position + 1 ≤ length wait.now) }
+    requires { (floor.0 ≤ max_position) × (level.0 ≤ max_position) × (max_position + 1 ≤ length wait.now) }
     ensures { MatchOption result (NoneWaits wait.now level.0 floor.0) (λ m. NextLevel wait.now level.0 floor.0 m.0) }
 {
-    for m in (floor.0 as usize + 1..level.0 as usize).rev() {
-        if wait[m] != 0 {
-            return Some(Pos(m as u8));
+    for m in (floor.0 + 1..level.0).rev() {
+        if wait[m as usize] != 0 {
+            return Some(Pos(m));
         }
     }
     None

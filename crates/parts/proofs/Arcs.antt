@@ -95,30 +95,28 @@ module _ (nodes arcs : List ℕ) (fine : bad_classes nodes ≡ false) where
   abbrev found : Outcome
   found = outcome (arc_tests (length nodes) entries) (sizes_of (map entry_class entries))
 
-  pub parts-refused : (n : ℕ) → found ≡ refused n → refused n ≡ outcome (part_tests (length nodes) nodes arcs) sizes
-  parts-refused n e = sym (rw fine (outcome-refused (arc_tests (length nodes) entries) ((6, bad_sizes (elements nodes entries)) ∷ []) (sizes_of (map entry_class entries)) sizes n e))
+  -- what the code has at hand: what the pass found
+  module _ (now : Outcome) (so : now ≡ found) where
+    pub code-refused : (n : ℕ) → now ≡ refused n → refused n ≡ outcome (part_tests (length nodes) nodes arcs) sizes
+    code-refused n q = sym (rw fine (outcome-refused (arc_tests (length nodes) entries) ((6, bad_sizes (elements nodes entries)) ∷ []) (sizes_of (map entry_class entries)) sizes n (sym so ∙ q)))
 
-  module _ (arcs1 arcs2 : ℕ) (e : found ≡ success (arcs1 ∷ arcs2 ∷ [])) where
-    values : sizes_of (map entry_class entries) ≡ arcs1 ∷ arcs2 ∷ []
-    values = outcome-values (arc_tests (length nodes) entries) (sizes_of (map entry_class entries)) (arcs1 ∷ arcs2 ∷ []) e
+    module _ (arcs1 arcs2 : ℕ) (q : now ≡ success (arcs1 ∷ arcs2 ∷ [])) where
+      values : sizes_of (map entry_class entries) ≡ arcs1 ∷ arcs2 ∷ []
+      values = outcome-values (arc_tests (length nodes) entries) (sizes_of (map entry_class entries)) (arcs1 ∷ arcs2 ∷ []) (sym so ∙ q)
 
-    few : (c : ℕ) → count c (map entry_class entries) ≤ length arcs
-    few c = omega (arith, count_most c (map entry_class entries), length-map entries entry_class, entries-length arcs)
+      few : (c : ℕ) → count c (map entry_class entries) ≤ length arcs
+      few c = omega (arith, count_most c (map entry_class entries), length-map entries entry_class, entries-length arcs)
 
-    pub arcs1-few : arcs1 ≤ length arcs
-    arcs1-few = omega (arith, few 1, ap (λ v. get_or v 0 0) values)
+      pub code-few : (arcs1 ≤ length arcs) × (arcs2 ≤ length arcs)
+      code-few = (omega (arith, few 1, ap (λ v. get_or v 0 0) values), omega (arith, few 2, ap (λ v. get_or v 1 0) values))
 
-    pub arcs2-few : arcs2 ≤ length arcs
-    arcs2-few = omega (arith, few 2, ap (λ v. get_or v 1 0) values)
-
-    pub parts-sizes : (n1 n2 : ℕ) → n1 ≡ count 1 nodes → n2 ≡ count 2 nodes → (n1 + arcs1) ∷ (n2 + arcs2) ∷ [] ≡ sizes
-    parts-sizes n1 n2 e1 e2 =
-        ap₂ (λ x y. x ∷ y ∷ [])
-        (omega (arith, e1, count-append 1 nodes (map entry_class entries), ap (λ v. get_or v 0 0) values))
-        (omega (arith, e2, count-append 2 nodes (map entry_class entries), ap (λ v. get_or v 1 0) values))
-
-    -- test 6 is left
-    pub parts_last : (n1 n2 : ℕ) → n1 ∷ n2 ∷ [] ≡ sizes → outcome (part_tests (length nodes) nodes arcs) sizes ≡ cond (ltb max_class n1 || ltb max_class n2) (refused 6) (success (n1 ∷ n2 ∷ []))
-    parts_last n1 n2 f =
-        rw fine (outcome-passed (arc_tests (length nodes) entries) ((6, bad_sizes (elements nodes entries)) ∷ []) (sizes_of (map entry_class entries)) sizes e)
-        ∙ ap (λ v. cond (ltb max_class (get_or v 0 0) || ltb max_class (get_or v 1 0)) (refused 6) (success v)) (sym f)
+      -- test 6 is left
+      pub code-last : (n1 n2 : ℕ) → n1 ≡ count 1 nodes → n2 ≡ count 2 nodes
+          → cond (ltb max_class (n1 + arcs1) || ltb max_class (n2 + arcs2)) (refused 6) (success ((n1 + arcs1) ∷ (n2 + arcs2) ∷ [])) ≡ outcome (part_tests (length nodes) nodes arcs) sizes
+      code-last n1 n2 e1 e2 =
+          let f : (n1 + arcs1) ∷ (n2 + arcs2) ∷ [] ≡ sizes = ap₂ (λ x y. x ∷ y ∷ [])
+          (omega (arith, e1, count-append 1 nodes (map entry_class entries), ap (λ v. get_or v 0 0) values))
+          (omega (arith, e2, count-append 2 nodes (map entry_class entries), ap (λ v. get_or v 1 0) values)) in
+          sym
+          (rw fine (outcome-passed (arc_tests (length nodes) entries) ((6, bad_sizes (elements nodes entries)) ∷ []) (sizes_of (map entry_class entries)) sizes (sym so ∙ q))
+          ∙ ap (λ v. cond (ltb max_class (get_or v 0 0) || ltb max_class (get_or v 1 0)) (refused 6) (success v)) (sym f))

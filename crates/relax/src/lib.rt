@@ -5,6 +5,7 @@ ghost use Rattle.std.specs.Prelude.{◌≡◌, ◌-◌};
 ghost use Rattle.relax.specs.Steps.{Graph, mark_at, growth, Work, Kept, Ready};
 
 use front::{Pos, Pos1, Pos2};
+
 // The network that is searched: the capacities of class 1 of all nodes and then those of class 2, and
 // the chains of arcs.
 #[derive(Clone, Copy)]

@@ -77,9 +77,9 @@ module _ {o : List ℕ} {at : ℕ} {capacities₀ capacities : List ℕ} {k : �
   pub inside : (x < length capacities₀ / 2) × (at + x < length capacities)
   inside = omega (arith, is_x, p.nodes j (omega (arith, p.upto)), p.half, p.size)
 
-  pub place-again : Placing o at capacities₀ (set capacities (at + x) k) j
-  place-again =
-      record {
+  pub place-again : (y : ℕ) → y ≡ k → Placing o at capacities₀ (set capacities (at + x) y) j
+  place-again y e =
+      rw e (record {
         small = p.small;
         nodes = p.nodes;
         upto = omega (arith, p.upto);
@@ -95,7 +95,7 @@ module _ {o : List ℕ} {at : ℕ} {capacities₀ capacities : List ℕ} {k : �
             get_or-set_other capacities (at + x) (at + v) k 0 (λ e. m (omega arith)) ∙ omega (arith, p.done v b, ap (position v) cut, q))
             (decide (eqb v x));
         kept = λ i b. get_or-set_other capacities (at + x) i k 0 (omega arith) ∙ p.kept i b;
-      }
+      })
 
 pub placed : {o : List ℕ} {at : ℕ} {capacities₀ capacities : List ℕ} {k : ℕ} → Placing o at capacities₀ capacities k → k ≡ 0 → (v : ℕ) → v < length capacities₀ / 2 → get_or capacities (at + v) 0 ≡ position v o
 placed {o} p e v b = omega (arith, p.done v b, ap (λ j. position v (drop j o)) e)

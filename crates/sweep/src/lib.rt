@@ -31,10 +31,10 @@ fn next_in(order: &[u16], label: &[u8], x: Pos1, last: Pos2) -> Option<Pos1>
     requires { (x.0 - 1 ≤ length order.now) × ((k : ℕ) → k < x.0 - 1 → get_or order.now k 0 < length label.now) }
     ensures { MatchOption result (NoneIn order.now label.now (x.0 - 1) last.0) (λ r. NextIn order.now label.now (x.0 - 1) last.0 r.0) }
 {
-    for r in (1..x.0 as usize).rev() {
-        let v = order[r - 1] as usize;
+    for r in (1..x.0).rev() {
+        let v = order[r as usize - 1] as usize;
         if Pos(label[v]).above(last) {
-            return Some(Pos(r as u8));
+            return Some(Pos(r));
         }
     }
     None

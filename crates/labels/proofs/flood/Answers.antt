@@ -5,8 +5,14 @@ use native.Mathlib.Nat.{pos_of_ne-zero}
 use native.Mathlib.Omega.{arith}
 use lib.ListN.{get_or}
 use Rattle.relax.specs.Steps.{NoneWaits, NextLevel}
-use Rattle.labels.proofs.Drains.{flooded, settle, leveled}
+use Rattle.labels.proofs.Drains.{flooded, settle, leveled, label-most}
 use Rattle.labels.proofs.flood.Goals as goal
+
+pub next_level-requires : goal.next_level-requires
+next_level-requires c =
+    let b = c.requires.1 in
+    let w = c.drain.ensures.work c.requires.0 (leveled b (c.loop-next.invariant c.requires.0 b)) in
+    omega (arith, w.high, w.laid.small2, w.long-wait, label-most w c.args.begin.source (omega (arith, b.source, w.laid.s-in)))
 
 pub returns-in_default-clause-settled : goal.returns-in_default-clause-settled
 returns-in_default-clause-settled c = λ f b.

@@ -2,17 +2,14 @@
 use mathlib.Core.Path.{ap, ap₂, ◌∙◌}
 use mathlib.Core.Bool.{not, ◌&&◌}
 use Prim.Native.Nat.{◌+◌}
-use native.Mathlib.Omega.{arith}
 use lib.ListN.{take, drop}
-use Rattle.orders.proofs.Orders.{first-few, first-size, first-order}
+use Rattle.orders.proofs.Orders.{first-size, first-order}
 use Rattle.parts.specs.Study.{pieces}
 use Rattle.parts.proofs.Rounds.{all_same}
 use Rattle.parts.proofs.bad_rounds.Goals as goal
 
-pub bad_orders-requires : goal.bad_orders-requires
-bad_orders-requires c = let a = c.args in
-    let h = c.requires in
-    record { few = (first-few 1 a.n1 h.0, first-few 2 a.n2 h.1, omega arith, h.2); sizes = (first-size 1 a.n1 h.0, first-size 2 a.n2 h.1) }
+pub bad_orders-requires-clause-sizes : goal.bad_orders-requires-clause-sizes
+bad_orders-requires-clause-sizes c = (first-size 1 c.args.n1 c.requires.0, first-size 2 c.args.n2 c.requires.1)
 
 pub returns : goal.returns
 returns c = let a = c.args in

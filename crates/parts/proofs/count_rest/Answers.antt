@@ -4,13 +4,8 @@ use Prim.Native.Nat.{◌+◌, ◌*◌}
 use native.Mathlib.Omega.{arith}
 use lib.ListN.{get_or}
 use Rattle.limits.specs.Limits.{arc_size}
-use Rattle.parts.proofs.Arcs.{of-class1, of-class2, bad_all, looked-arc, looked-kind, looked-next, looked-end}
+use Rattle.parts.proofs.Arcs.{of-class1, of-class2, bad_all, looked-kind, looked-next, looked-end}
 use Rattle.parts.proofs.count_rest.Goals as goal
-
-pub returns-then-bad_arc : goal.returns-then-bad_arc
-returns-then-bad_arc c = let a = c.args in
-    let l = c.loop-i in
-    rw (looked-arc a.n a.arcs.now l.invariant (omega arith) (sym c.bad_arc.ensures ∙ c.if-bad_arc.true))
 
 pub returns-then-bad_arcs : goal.returns-then-bad_arcs
 returns-then-bad_arcs c = rw (bad_all c.args.n c.args.arcs.now ∙ sym c.bad_arcs.ensures ∙ c.if-bad_arcs.true)
