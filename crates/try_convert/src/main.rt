@@ -15,15 +15,20 @@ use test_counts::{Answers, opened_right, tick, wrote_right};
 use test_files::{Judged, UNTOUCHED};
 use test_studies::{Study, damaged_file, some};
 
+// Slices exactly long enough, and longer ones.
+#[derive(Clone, Copy, Default)]
+struct Rooms {
+    exact: u64,
+    longer: u64,
+}
+
 #[derive(Drop)]
 pub struct Counts {
     pub wrong: u64,
     old_files: Answers,
     new_files: Answers,
     opening: Answers,
-    // slices exactly long enough, and longer ones
-    exact: u64,
-    roomy: u64,
+    rooms: Rooms,
     // fronts, and their pairs
     pub fronts: u64,
     pub pairs: u64,
@@ -50,35 +55,45 @@ fn convert(file: &[u8], short: usize) -> (Judged, bool)
     (due, wrote_right(&new, due, got, &out))
 }
 
-fn try_convert(file: &[u8], short: usize, answers: &mut Answers, wrong: &mut u64) -> bool
-    requires { (length file.now ≤ 10000) × (short ≤ 4) }
+fn try_convert(file: &[u8], seed: u64, answers: &mut Answers, rooms: &mut Rooms, wrong: &mut u64)
+    requires { length file.now ≤ 10000 }
 {
+    let short = some(seed, 50, 4);
     let (due, right) = convert(file, short);
     answers.judge(due, right, wrong);
-    due.first.is_none()
+    let good = due.first.is_none();
+    tick(&mut rooms.exact, good && short == 1);
+    tick(&mut rooms.longer, good && 1 < short);
 }
 
-// ---- files
-// The old file of a seed: converted, and read by opening as a new one, where a success tells class
-// sizes with the arcs in them.
-fn try_old(seed: u64, counts: &mut Counts) {
-    let file = made::old_file(seed);
-    let short = some(seed, 50, 4);
-    let good = try_convert(&file, short, &mut counts.old_files, &mut counts.wrong);
-    tick(&mut counts.exact, good && short == 1);
-    tick(&mut counts.roomy, good && 1 < short);
-    let due = test_files::opening(&file);
-    let right = opened_right(&file, due, study::open_study(&file));
+// Opening, which reads an old file as a new one; a success tells class sizes with the arcs in them.
+fn try_opening(file: &[u8], counts: &mut Counts)
+    requires { length file.now ≤ 10000 }
+{
+    let due = test_files::opening(file);
+    let right = opened_right(file, due, study::open_study(file));
     counts.opening.judge(due, right, &mut counts.wrong);
 }
 
-// The new file of a seed, as an old one.
-fn try_new(seed: u64, counts: &mut Counts) {
-    let file = damaged_file(seed, Study::of(seed).sections());
-    let short = some(seed, 50, 4);
-    let good = try_convert(&file, short, &mut counts.new_files, &mut counts.wrong);
-    tick(&mut counts.exact, good && short == 1);
-    tick(&mut counts.roomy, good && 1 < short);
+// The old file of a seed, and its new file as an old one.
+fn try_seed(seed: u64, counts: &mut Counts) {
+    let old = made::old_file(seed);
+    try_convert(
+        &old,
+        seed,
+        &mut counts.old_files,
+        &mut counts.rooms,
+        &mut counts.wrong,
+    );
+    try_opening(&old, counts);
+    let new = damaged_file(seed, Study::of(seed).sections());
+    try_convert(
+        &new,
+        seed,
+        &mut counts.new_files,
+        &mut counts.rooms,
+        &mut counts.wrong,
+    );
 }
 
 fn main(rt: HostRuntime) -> io::Result<()> {
@@ -87,20 +102,21 @@ fn main(rt: HostRuntime) -> io::Result<()> {
         old_files: Answers::new(),
         new_files: Answers::new(),
         opening: Answers::new(),
-        exact: 0,
-        roomy: 0,
+        rooms: Rooms::default(),
         fronts: 0,
         pairs: 0,
     };
     for i in 0..3000 {
-        try_old(test_support::seed(i), &mut counts);
-        try_new(test_support::seed(i), &mut counts);
+        try_seed(test_support::seed(i), &mut counts);
     }
     fronts::try_fronts(&mut counts);
     counts.old_files.show(&rt, "converter, old files")?;
     counts.new_files.show(&rt, "converter, new files")?;
-    println!(&rt; "converter, slices exactly long enough {}", counts.exact)?;
-    println!(&rt; "converter, longer slices {}", counts.roomy)?;
+    println!(&rt;
+        "converter, slices exactly long enough {}",
+        counts.rooms.exact
+    )?;
+    println!(&rt; "converter, longer slices {}", counts.rooms.longer)?;
     counts.opening.show(&rt, "opening, old files")?;
     println!(&rt; "fronts compared {}", counts.fronts)?;
     println!(&rt; "pairs listed {}", counts.pairs)?;
