@@ -89,10 +89,8 @@ fn lend<
     requires { F.IsAlwaysCallable call }
 {
     let mut out = before;
-    let refusal = match out.get_mut(..n) {
-        Some(room) => number(call(room)),
-        None => number(call(&mut out)),
-    };
+    let room = &mut out[..n.min(N)];
+    let refusal = number(call(room));
     told(refusal, out == before)
 }
 

@@ -348,7 +348,7 @@ pub fn level(m: u32) -> Words {
 }
 
 // The causes of 31, alone or together, whatever else is wrong: M is 0, a cell to be lowered is, the
-// outcome is not sound, with 0 for what would fall below it.
+// outcome is not sound, with 0 for what would fall below it. A cell that the slice does not have is 0.
 #[derive(Clone, Copy)]
 pub struct Causes {
     pub rounds: bool,
@@ -357,12 +357,13 @@ pub struct Causes {
 }
 
 pub fn causes_of(r: &[u8], t: &Words) -> Causes {
-    let mut left = changed(r, t, Step::Down);
-    let rounds = left
-        .as_mut_slice()
-        .get_mut(ROUNDS..SCORE)
-        .is_some_and(settle);
-    let cell = left.as_mut_slice().get_mut(HEAD..).is_some_and(settle);
+    let mut left = [0; 4240];
+    for (x, &y) in left.iter_mut().zip(t.as_slice()) {
+        *x = y;
+    }
+    change(r, &mut left, Step::Down);
+    let rounds = left.get_mut(ROUNDS..SCORE).is_some_and(settle);
+    let cell = left.get_mut(HEAD..).is_some_and(settle);
     put_score(&mut left);
     Causes {
         rounds,

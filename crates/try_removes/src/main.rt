@@ -193,13 +193,25 @@ fn is_held(record: &Record, entries: &[Entry]) -> bool {
     entries.iter().any(|e| (0 < e.held) & (e.record == *record))
 }
 
+// Entry k once its record is added or removed.
+fn hold(entries: &mut [Entry], k: usize, step: Step) {
+    if let Some(entry) = entries.get_mut(k) {
+        entry.held = match step {
+            Step::Up => entry.held.saturating_add(1),
+            Step::Down => entry.held.saturating_sub(1),
+        };
+    }
+}
+
 impl List {
     // Move j of a list.
-    fn step(self, j: u64, entries: &mut [Entry; 4], words: &mut Words, counts: &mut Counts)
+    fn step(self, j: u64, entries: &mut [Entry], words: &mut Words, counts: &mut Counts)
         requires { j ≤ 100 }
     {
         let k = pick(self.seed, 300 + j, 4) as usize % 4;
-        let entry = &entries[k];
+        let Some(entry) = entries.get(k) else {
+            return;
+        };
         let up = (pick(self.seed, 400 + j, 9) < 5) | (self.legal & (entry.held == 0));
         let step = if up { Step::Up } else { Step::Down };
         let refused = try_move(&entry.record, step, self.own, words, counts).is_some();
@@ -210,15 +222,11 @@ impl List {
             count(&mut counts.strangers);
         }
         if !refused {
-            let held = &mut entries[k].held;
-            *held = match step {
-                Step::Up => held.saturating_add(1),
-                Step::Down => held.saturating_sub(1),
-            };
+            hold(entries, k, step);
         }
     }
 
-    fn steps(self, entries: &mut [Entry; 4], words: &mut Words, counts: &mut Counts) {
+    fn steps(self, entries: &mut [Entry], words: &mut Words, counts: &mut Counts) {
         for entry in entries.iter_mut() {
             entry.held = 0;
         }
@@ -228,7 +236,7 @@ impl List {
     }
 
     // A list; after a legal one the words are those of the adds that remain, the last record's first.
-    fn run(self, entries: &mut [Entry; 4], words: &mut Words, counts: &mut Counts) {
+    fn run(self, entries: &mut [Entry], words: &mut Words, counts: &mut Counts) {
         let mut want = copied(words);
         self.steps(entries, words, counts);
         if self.legal {
@@ -271,7 +279,7 @@ fn rounds_of(seed: u64) -> u64 {
 
 // The n pairs of a record behind its first `skip`.
 fn part_of(record: &[u8], skip: usize, n: usize) -> Record
-    requires { (skip ≤ 100) × (n ≤ 100) }
+    requires { (skip ≤ 255) × (n ≤ 255) }
 {
     let start = 3 + 2 * skip;
     let mut part = Record::new();
@@ -291,8 +299,12 @@ fn make_record(seed: u64, s: Sizes, k: u64) -> Record
         _ if is_legal(seed) => record_of(seed + k, s),
         0 | 1 => {
             let whole = record_of(seed + 2, s);
-            let n = usize::from(whole[2]);
-            part_of(&whole, if k == 0 { 0 } else { n / 2 }, n - n / 2)
+            let n = byte(&whole, 2) as usize;
+            if k == 0 {
+                part_of(&whole, 0, n - n / 2)
+            } else {
+                part_of(&whole, n / 2, n - n / 2)
+            }
         }
         2 => record_of(seed + k, s),
         _ => record_of(

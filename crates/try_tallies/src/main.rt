@@ -43,9 +43,7 @@ fn show(rt: &impl Print, title: &str, answers: &Answers) -> io::Result<()> {
 
 // ---- new
 // How many words a new tally has, or the refusal's number.
-fn new_due(s: Sizes, room: usize) -> Result<usize, u32>
-    ensures { IfOk result (λ n. (2 ≤ n) × (n ≤ room)) }
-{
+fn new_due(s: Sizes, room: usize) -> Result<usize, u32> {
     let end = HEAD + cells_of(s.n1, s.n2).ok_or(6u32)?;
     if room < end { Err(21) } else { Ok(end) }
 }
@@ -54,9 +52,11 @@ fn try_new(s: Sizes, words: &mut Words, answers: &mut Answers) {
     let mut want = copied(words);
     let due = new_due(s, words.len());
     if let Ok(end) = due {
-        want[..end].fill(0);
-        want[0] = s.n1 as u32;
-        want[1] = s.n2 as u32;
+        for x in want.iter_mut().take(end) {
+            *x = 0;
+        }
+        put(&mut want, 0, s.n1);
+        put(&mut want, 1, s.n2);
     }
     let got = number(tally::new(s.n1 as u32, s.n2 as u32, words));
     answers.judge(got, (got == due.err()) & (want == *words));
@@ -94,7 +94,9 @@ fn one_add(seed: u64, s: Sizes, words: &mut Words, answers: &mut Answers) {
     let mut record = record_of(seed, record_sizes(seed, s));
     match pick(seed, 7, 10) {
         2 => poke(&mut record, pick(seed, 9, 30) as usize, pick(seed, 10, 256)),
-        3 => record.truncate(record.len() - 1),
+        3 => {
+            record.pop();
+        }
         _ => {}
     }
     try_add(&record, words, answers);
