@@ -1,12 +1,12 @@
 -- Numbers 21 and 22 of a tally, as the code comes to them.
-use mathlib.Core.Path.{◌≡◌, refl, sym, ◌∙◌}
-use mathlib.Core.Bool.{Bool, true, false, not, ◌&&◌, ◌||◌}
+use mathlib.Core.Path.{◌≡◌, sym, ◌∙◌}
+use mathlib.Core.Bool.{true, false, not, ◌&&◌, ◌||◌}
 use mathlib.Core.List.{List, [], ◌∷◌}
 use Prim.Native.Nat.{ℕ, ◌≤◌, ◌+◌, ◌*◌}
 use native.Mathlib.Omega.{arith}
 use lib.Dec.{leb, ltb}
 use lib.ListN.{length, drop}
-use borrow.Author.Tests.{le-leb, lt-leb, le-ltb, ltb-true, ltb-false, not-false}
+use borrow.Author.Tests.{le-leb, le-ltb, ltb-false, not-false}
 use Rattle.laws.specs.Sums.{product-most}
 use Rattle.limits.specs.Limits.{max_rounds, max_class}
 use Rattle.laws.specs.Tests.{or-none}
@@ -16,18 +16,6 @@ use Rattle.answer.proofs.Outcomes.{outcome-tests}
 use Rattle.soundness.specs.Tally.{head_words, tally_size1, tally_size2, rounds, tally_score, words, lacks_room, is_sound, Sound, state_tests, state_answer}
 use Rattle.soundness.specs.Steps.{is_fair}
 use Rattle.soundness.proofs.Sounds.{fair-code, sound-is}
-
--- one of two sizes is too large, or none
-not-both : (a b : ℕ) → ltb max_class a || ltb max_class b ≡ true → leb a max_class && leb b max_class ≡ false
-not-both a b e = go (ltb max_class a) refl e
-  where
-    second : (x : Bool) → x && false ≡ false
-    second true = refl
-    second false = refl
-
-    go : (x : Bool) → ltb max_class a ≡ x → x || ltb max_class b ≡ true → leb a max_class && leb b max_class ≡ false
-    go true q h = rw (lt-leb a max_class (ltb-true max_class a q))
-    go false q h = rw (lt-leb b max_class (ltb-true max_class b h)) (second (leb a max_class))
 
 -- the cells of any tally
 pub cells-most : (n1 n2 : ℕ) → n1 ≤ max_class → n2 ≤ max_class → (n1 + 1) * (n2 + 1) ≤ (max_class + 1) * (max_class + 1)

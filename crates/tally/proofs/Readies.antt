@@ -31,10 +31,6 @@ module _ (r t : List ℕ) where
     by_state : ready_answer r t ≡ outcome (state_tests t ++ last) (0 ∷ [])
     by_state = rw is
 
-    module _ (good : state_answer t ≡ success (0 ∷ [])) where
-      rest : ready_answer r t ≡ outcome last (0 ∷ [])
-      rest = by_state ∙ outcome-passed (state_tests t) last (0 ∷ []) (0 ∷ []) good
-
 -- ---- a record that is ready
 module _ (r t : List ℕ) (ok : ready_answer r t ≡ success (0 ∷ [])) where
   is-record : is_record r ≡ true
