@@ -1,3 +1,4 @@
 pub mod Puts
 pub mod Builds
 pub mod Collects
+pub mod Linked

@@ -1,3 +1,4 @@
 pub mod Tables
 pub mod Peaks
 pub mod Rows
+pub mod Linked

@@ -1,3 +1,4 @@
 pub mod Merges
 pub mod Answers
 pub mod Algebra
+pub mod Linked

@@ -5,3 +5,4 @@ pub mod Orders
 pub mod Fronts
 pub mod Converts
 pub mod Writes
+pub mod Linked

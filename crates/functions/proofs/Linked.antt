@@ -78,19 +78,19 @@ module _ (W : World) (t : Tables W) where
   slices-below = tt
 
   pub record-below : record-link.Below W
-  record-below = (front-link.Pair-holds-linked W t.has-front front-below, (front-link.class1-Pos1-above-linked W t.has-front front-below, (front-link.class1-Pos1-at_least-linked W t.has-front front-below, (front-link.class2-Pos2-above-linked W t.has-front front-below, (front-link.class2-Pos2-at_least-linked W t.has-front front-below, (slices-link.byte-linked W t.has-slices slices-below, (slices-link.wide-linked W t.has-slices slices-below, tt)))))))
+  record-below = (front-link.Pair-holds-linked W t.has-front front-below, (front-link.pos-Pos-above-linked W t.has-front front-below, (front-link.pos-Pos-at_least-linked W t.has-front front-below, (slices-link.byte-linked W t.has-slices slices-below, tt))))
 
   pub buffer-below : buffer-link.Below W
-  buffer-below = (answer-link.deliver-linked W t.has-answer answer-below, (front-link.Pair-covers-linked W t.has-front front-below, (front-link.Pair-dominates-linked W t.has-front front-below, (record-link.pair_at-linked W t.has-record record-below, (slices-link.wide-linked W t.has-slices slices-below, tt)))))
+  buffer-below = (answer-link.deliver-linked W t.has-answer answer-below, (front-link.Pair-covers-linked W t.has-front front-below, (front-link.Pair-dominates-linked W t.has-front front-below, (record-link.pair_at-linked W t.has-record record-below, tt))))
 
   pub compose-below : compose-link.Below W
-  compose-below = (buffer-link.deliver-linked W t.has-buffer buffer-below, (buffer-link.empty-linked W t.has-buffer buffer-below, (buffer-link.put-linked W t.has-buffer buffer-below, (front-link.Pair-min-linked W t.has-front front-below, (front-link.class1-Pos1-at_least-linked W t.has-front front-below, (front-link.class2-Pos2-at_least-linked W t.has-front front-below, (record-link.is_record-linked W t.has-record record-below, (record-link.pair_at-linked W t.has-record record-below, (record-link.read_head-linked W t.has-record record-below, tt)))))))))
+  compose-below = (buffer-link.FrontRecord-deliver-linked W t.has-buffer buffer-below, (buffer-link.FrontRecord-empty-linked W t.has-buffer buffer-below, (buffer-link.FrontRecord-put-linked W t.has-buffer buffer-below, (front-link.Pair-min-linked W t.has-front front-below, (front-link.pos-Pos-at_least-linked W t.has-front front-below, (record-link.is_record-linked W t.has-record record-below, (record-link.pair_at-linked W t.has-record record-below, (record-link.read_head-linked W t.has-record record-below, tt))))))))
 
   pub orders-below : orders-link.Below W
-  orders-below = (slices-link.part-linked W t.has-slices slices-below, (slices-link.put-linked W t.has-slices slices-below, (slices-link.wide-linked W t.has-slices slices-below, tt)))
+  orders-below = (slices-link.part-linked W t.has-slices slices-below, (slices-link.put-linked W t.has-slices slices-below, tt))
 
   pub parts-below : parts-link.Below W
-  parts-below = (orders-link.are_orders-linked W t.has-orders orders-below, (orders-link.count-linked W t.has-orders orders-below, (slices-link.part-linked W t.has-slices slices-below, (slices-link.wide-linked W t.has-slices slices-below, tt))))
+  parts-below = (orders-link.are_orders-linked W t.has-orders orders-below, (orders-link.count-linked W t.has-orders orders-below, (slices-link.part-linked W t.has-slices slices-below, tt)))
 
   pub sections-below : sections-link.Below W
   sections-below = (slices-link.part-linked W t.has-slices slices-below, (slices-link.word-linked W t.has-slices slices-below, tt))
@@ -102,10 +102,10 @@ module _ (W : World) (t : Tables W) where
   writer-below = (parts-link.bad_counts-linked W t.has-parts parts-below, (parts-link.bad_ends-linked W t.has-parts parts-below, (parts-link.bad_rounds-linked W t.has-parts parts-below, (parts-link.test_parts-linked W t.has-parts parts-below, (slices-link.put-linked W t.has-slices slices-below, (slices-link.put_word-linked W t.has-slices slices-below, tt))))))
 
   pub convert-below : convert-link.Below W
-  convert-below = (orders-link.count-linked W t.has-orders orders-below, (parts-link.bad_orders-linked W t.has-parts parts-below, (parts-link.test_parts-linked W t.has-parts parts-below, (sections-link.arc_bytes-linked W t.has-sections sections-below, (sections-link.node_bytes-linked W t.has-sections sections-below, (sections-link.read_trailer-linked W t.has-sections sections-below, (sections-link.round_at-linked W t.has-sections sections-below, (slices-link.put-linked W t.has-slices slices-below, (slices-link.wide-linked W t.has-slices slices-below, (study-link.test_trailer-linked W t.has-study study-below, (writer-link.put_trailer-linked W t.has-writer writer-below, tt)))))))))))
+  convert-below = (orders-link.count-linked W t.has-orders orders-below, (parts-link.bad_arcs-linked W t.has-parts parts-below, (parts-link.bad_orders-linked W t.has-parts parts-below, (parts-link.test_parts-linked W t.has-parts parts-below, (sections-link.arc_bytes-linked W t.has-sections sections-below, (sections-link.node_bytes-linked W t.has-sections sections-below, (sections-link.read_trailer-linked W t.has-sections sections-below, (sections-link.round_at-linked W t.has-sections sections-below, (slices-link.put-linked W t.has-slices slices-below, (study-link.test_trailer-linked W t.has-study study-below, (writer-link.put_trailer-linked W t.has-writer writer-below, tt)))))))))))
 
   pub soundness-below : soundness-link.Below W
-  soundness-below = (slices-link.wide_word-linked W t.has-slices slices-below, tt)
+  soundness-below = tt
 
   pub weights-below : weights-link.Below W
   weights-below = tt
@@ -114,31 +114,31 @@ module _ (W : World) (t : Tables W) where
   reliability-below = (soundness-link.check-linked W t.has-soundness soundness-below, (weights-link.fill-linked W t.has-weights weights-below, tt))
 
   pub chains-below : chains-link.Below W
-  chains-below = (slices-link.wide-linked W t.has-slices slices-below, tt)
+  chains-below = tt
 
   pub members-below : members-link.Below W
-  members-below = (orders-link.same-linked W t.has-orders orders-below, (slices-link.wide-linked W t.has-slices slices-below, tt))
+  members-below = (orders-link.same-linked W t.has-orders orders-below, tt)
 
   pub relax-below : relax-link.Below W
-  relax-below = (front-link.class1-Pos1-at_least-linked W t.has-front front-below, (front-link.class2-Pos2-at_least-linked W t.has-front front-below, (front-link.class2-Pos2-min-linked W t.has-front front-below, (slices-link.wide-linked W t.has-slices slices-below, (slices-link.wide_two-linked W t.has-slices slices-below, tt)))))
+  relax-below = (front-link.pos-Pos-at_least-linked W t.has-front front-below, (front-link.pos-Pos-min-linked W t.has-front front-below, tt))
 
   pub labels-below : labels-link.Below W
-  labels-below = (front-link.class2-Pos2-above-linked W t.has-front front-below, (front-link.class2-Pos2-at_least-linked W t.has-front front-below, (relax-link.spread-linked W t.has-relax relax-below, (relax-link.step_to-linked W t.has-relax relax-below, (slices-link.wide-linked W t.has-slices slices-below, tt)))))
+  labels-below = (front-link.pos-Pos-at_least-linked W t.has-front front-below, (relax-link.spread-linked W t.has-relax relax-below, tt))
 
   pub sweep-below : sweep-link.Below W
-  sweep-below = (buffer-link.empty-linked W t.has-buffer buffer-below, (buffer-link.put-linked W t.has-buffer buffer-below, (front-link.class2-Pos2-above-linked W t.has-front front-below, (front-link.class2-Pos2-at_least-linked W t.has-front front-below, (labels-link.flood-linked W t.has-labels labels-below, (relax-link.step_to-linked W t.has-relax relax-below, (slices-link.wide-linked W t.has-slices slices-below, (slices-link.wide_two-linked W t.has-slices slices-below, tt))))))))
+  sweep-below = (buffer-link.FrontRecord-empty-linked W t.has-buffer buffer-below, (buffer-link.FrontRecord-put-linked W t.has-buffer buffer-below, (front-link.pos-Pos-above-linked W t.has-front front-below, (front-link.pos-Pos-at_least-linked W t.has-front front-below, (labels-link.flood-linked W t.has-labels labels-below, tt)))))
 
   pub search-below : search-link.Below W
-  search-below = (buffer-link.deliver-linked W t.has-buffer buffer-below, (chains-link.link-linked W t.has-chains chains-below, (front-link.class1-Pos1-min-linked W t.has-front front-below, (members-link.element_orders-linked W t.has-members members-below, (sections-link.arc_bytes-linked W t.has-sections sections-below, (sections-link.node_bytes-linked W t.has-sections sections-below, (sections-link.round_at-linked W t.has-sections sections-below, (slices-link.wide_two-linked W t.has-slices slices-below, (study-link.open_orders-linked W t.has-study study-below, (sweep-link.sweep-linked W t.has-sweep sweep-below, tt))))))))))
+  search-below = (buffer-link.FrontRecord-deliver-linked W t.has-buffer buffer-below, (chains-link.link-linked W t.has-chains chains-below, (front-link.pos-Pos-min-linked W t.has-front front-below, (members-link.element_orders-linked W t.has-members members-below, (sections-link.arc_bytes-linked W t.has-sections sections-below, (sections-link.node_bytes-linked W t.has-sections sections-below, (sections-link.round_at-linked W t.has-sections sections-below, (study-link.open_orders-linked W t.has-study study-below, (sweep-link.sweep-linked W t.has-sweep sweep-below, tt)))))))))
 
   pub cells-below : cells-link.Below W
-  cells-below = (front-link.class2-Pos2-at_least-linked W t.has-front front-below, (record-link.holds-linked W t.has-record record-below, (record-link.pair_at-linked W t.has-record record-below, (record-link.read_head-linked W t.has-record record-below, (slices-link.wide-linked W t.has-slices slices-below, tt)))))
+  cells-below = (front-link.pos-Pos-max-linked W t.has-front front-below, (record-link.holds-linked W t.has-record record-below, (record-link.pair_at-linked W t.has-record record-below, (record-link.read_head-linked W t.has-record record-below, tt))))
 
   pub tally-below : tally-link.Below W
-  tally-below = (cells-link.change_rows-linked W t.has-cells cells-below, (cells-link.edges_ready-linked W t.has-cells cells-below, (cells-link.top_ready-linked W t.has-cells cells-below, (record-link.is_record-linked W t.has-record record-below, (record-link.read_head-linked W t.has-record record-below, (slices-link.wide-linked W t.has-slices slices-below, (slices-link.wide_word-linked W t.has-slices slices-below, (soundness-link.check-linked W t.has-soundness soundness-below, tt))))))))
+  tally-below = (cells-link.change_rows-linked W t.has-cells cells-below, (cells-link.edges_ready-linked W t.has-cells cells-below, (cells-link.top_ready-linked W t.has-cells cells-below, (record-link.is_record-linked W t.has-record record-below, (record-link.read_head-linked W t.has-record record-below, (soundness-link.check-linked W t.has-soundness soundness-below, tt))))))
 
   pub medlarbrace-below : medlarbrace-link.Below W
-  medlarbrace-below = (answer-link.number-linked W t.has-answer answer-below, (compose-link.parallel-linked W t.has-compose compose-below, (compose-link.series-linked W t.has-compose compose-below, (convert-link.convert-linked W t.has-convert convert-below, (reliability-link.reliability-linked W t.has-reliability reliability-below, (search-link.search-linked W t.has-search search-below, (sections-link.round_start-linked W t.has-sections sections-below, (study-link.open_round-linked W t.has-study study-below, (study-link.open_study-linked W t.has-study study-below, (tally-link.add-linked W t.has-tally tally-below, (tally-link.new-linked W t.has-tally tally-below, (tally-link.remove-linked W t.has-tally tally-below, (tally-link.score-linked W t.has-tally tally-below, (weights-link.ageing-linked W t.has-weights weights-below, (weights-link.weights-linked W t.has-weights weights-below, (writer-link.write_study-linked W t.has-writer writer-below, tt))))))))))))))))
+  medlarbrace-below = (answer-link.U32FromRefusal-from-linked W t.has-answer answer-below, (compose-link.parallel-linked W t.has-compose compose-below, (compose-link.series-linked W t.has-compose compose-below, (convert-link.convert-linked W t.has-convert convert-below, (reliability-link.reliability-linked W t.has-reliability reliability-below, (search-link.search-linked W t.has-search search-below, (sections-link.round_start-linked W t.has-sections sections-below, (study-link.open_round-linked W t.has-study study-below, (study-link.open_study-linked W t.has-study study-below, (tally-link.add-linked W t.has-tally tally-below, (tally-link.new-linked W t.has-tally tally-below, (tally-link.remove-linked W t.has-tally tally-below, (tally-link.score-linked W t.has-tally tally-below, (weights-link.ageing-linked W t.has-weights weights-below, (weights-link.weights-linked W t.has-weights weights-below, (writer-link.write_study-linked W t.has-writer writer-below, tt))))))))))))))))
 
   pub opening-linked : HasT (in_world W) true opening-symbol.code
   opening-linked = medlarbrace-link.files-medlarbrace_open-linked W t.has-medlarbrace medlarbrace-below

@@ -3,3 +3,4 @@ pub mod Arcs
 pub mod Blocks
 pub mod Limits
 pub mod Rounds
+pub mod Linked

@@ -6,3 +6,4 @@ pub mod Changes
 pub mod Edges
 pub mod Runs
 pub mod Scores
+pub mod Linked

@@ -18,10 +18,8 @@ fn clear(words: &mut [u32], n: usize)
     requires { n ≤ length words.old }
     ensures { words.new ≡ replicate n 0 ++ drop n words.old }
 {
-    let mut i = 0;
-    while i < n {
-        words[i] = 0;
-        i += 1;
+    for word in &mut words[..n] {
+        *word = 0;
     }
 }
 
@@ -84,40 +82,30 @@ fn ready(record: &[u8], tally: &[u32]) -> Result<(), Refusal>
     if !record::is_record(record) {
         return Err(Refusal::NotRecord);
     }
-    match soundness::check(tally) {
-        Err(r) => Err(r),
-        Ok(()) => {
-            if !same_sizes(record, tally) {
-                return Err(Refusal::TallySizes);
-            }
-            Ok(())
-        }
+    // No `?`: it would call std, whose code `AlwaysEnds` (kinds) cannot open.
+    if let Err(r) = soundness::check(tally) {
+        return Err(r);
     }
-}
-
-// ---- add
-// Adds a front record that is ready: number 24.
-fn add_to(record: &[u8], tally: &mut [u32]) -> Result<(), Refusal>
-    requires { ready_answer «record».now tally.old ≡ success (0 ∷ []) }
-    ensures answer { done result ≡ add_answer «record».now tally.old }
-    ensures slice { tally.new ≡ add_out «record».now tally.old }
-{
-    if tally[ROUNDS] == FULL {
-        return Err(Refusal::TallyFull);
+    if !same_sizes(record, tally) {
+        return Err(Refusal::TallySizes);
     }
-    change(record, tally, 1, 0);
     Ok(())
 }
 
+// ---- add
 // Adds a front record: M, and each cell where it holds, raised by 1; numbers 12 and 21 to 24.
 pub fn add(record: &[u8], tally: &mut [u32]) -> Result<(), Refusal>
     ensures answer { done result ≡ add_answer «record».now tally.old }
     ensures slice { tally.new ≡ add_out «record».now tally.old }
 {
-    match ready(record, tally) {
-        Err(r) => Err(r),
-        Ok(()) => add_to(record, tally),
+    if let Err(r) = ready(record, tally) {
+        return Err(r);
     }
+    if tally[ROUNDS] == FULL {
+        return Err(Refusal::TallyFull);
+    }
+    change(record, tally, 1, 0);
+    Ok(())
 }
 
 // ---- remove
@@ -132,28 +120,19 @@ fn can_remove(record: &[u8], tally: &[u32]) -> bool
     edges & cells::top_ready(&tally[HEAD..], record, head.n1, head.n2, tally[ROUNDS])
 }
 
-// Removes a front record that is ready: number 31.
-fn remove_from(record: &[u8], tally: &mut [u32]) -> Result<(), Refusal>
-    requires { ready_answer «record».now tally.old ≡ success (0 ∷ []) }
-    ensures answer { done result ≡ remove_answer «record».now tally.old }
-    ensures slice { tally.new ≡ remove_out «record».now tally.old }
-{
-    if !can_remove(record, tally) {
-        return Err(Refusal::NotRemovable);
-    }
-    change(record, tally, 0, 1);
-    Ok(())
-}
-
 // Removes a front record: M, and each cell where it holds, lowered by 1; numbers 12, 21 to 23 and 31.
 pub fn remove(record: &[u8], tally: &mut [u32]) -> Result<(), Refusal>
     ensures answer { done result ≡ remove_answer «record».now tally.old }
     ensures slice { tally.new ≡ remove_out «record».now tally.old }
 {
-    match ready(record, tally) {
-        Err(r) => Err(r),
-        Ok(()) => remove_from(record, tally),
+    if let Err(r) = ready(record, tally) {
+        return Err(r);
     }
+    if !can_remove(record, tally) {
+        return Err(Refusal::NotRemovable);
+    }
+    change(record, tally, 0, 1);
+    Ok(())
 }
 
 // ---- score

@@ -334,7 +334,7 @@ pub fn file(s: Sections<'_>, front: usize) -> File
     let _ = out.try_extend_from_slice(s.nodes);
     let _ = out.try_extend_from_slice(s.arcs);
     let _ = out.try_extend_from_slice(s.rounds);
-    for x in [
+    let trailer = [
         n,
         k.arcs,
         k.rounds,
@@ -343,10 +343,9 @@ pub fn file(s: Sections<'_>, front: usize) -> File
         n + arcs,
         arcs,
         rounds,
-    ] {
-        let word = ((x % 4294967296) as u32).to_le_bytes();
-        let _ = out.try_extend_from_slice(&word);
-    }
+    ]
+    .map(|x| ((x % 4294967296) as u32).to_le_bytes());
+    let _ = out.try_extend_from_slice(trailer.as_flattened());
     out
 }
 

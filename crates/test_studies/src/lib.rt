@@ -416,6 +416,7 @@ pub fn entries(entry: &[u8]) -> [u8; 3075]
 // A file with a byte in front, two arcs and two rounds.
 pub fn small_file(nodes: &[u8], arcs: &[u8], rounds: &[u8]) -> File
     requires { (length nodes.now ≤ 100) × (length arcs.now ≤ 100) × (length rounds.now ≤ 100) }
+    ensures { array_vec_len result ≡ length nodes.now + length arcs.now + length rounds.now + 33 }
 {
     let numbers = from_0_to_1(2, 2);
     let sections = Sections {

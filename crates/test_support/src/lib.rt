@@ -4,8 +4,6 @@
 
 ghost use Rattle.std.specs.Prelude.{◌≤◌, ◌<◌};
 
-use std::io;
-
 fn next(x: u64) -> u64
     ensures { result < 2147483648 }
 {
@@ -58,7 +56,8 @@ pub fn word(words: &[u32], at: usize) -> u64
     words.get(at).map_or(0, |&x| u64::from(x))
 }
 
-// Stores a word where the slice has that place.
+// Stores a word where the slice has that place. Not one generic function with `poke`: the two casts
+// differ, and a trait for them would be longer than both.
 pub fn put(words: &mut [u32], at: usize, value: u64) {
     if let Some(x) = words.get_mut(at) {
         *x = (value % 4294967296) as u32;
@@ -73,16 +72,6 @@ pub fn times(x: u64, y: u64) -> u64
     x * y
 }
 
-pub fn flag(test: bool) -> u64
-    ensures { result ≤ 1 }
-{
-    u64::from(test)
-}
-
-pub fn equal(a: &[u8], b: &[u8]) -> bool {
-    a == b
-}
-
 // Whether a pair of the record is above (a, b) in both numbers.
 pub fn record_holds(record: &[u8], a: u64, b: u64) -> bool {
     let [_, _, k, pairs @ ..] = record else {
@@ -92,36 +81,4 @@ pub fn record_holds(record: &[u8], a: u64, b: u64) -> bool {
         .chunks_exact(2)
         .take(usize::from(*k))
         .any(|pair| (a < byte(pair, 0)) & (b < byte(pair, 1)))
-}
-
-// ---- numbers in a text, one sign between two
-// How many.
-pub fn fields(text: &[u8]) -> u64
-    ensures { result ≤ 1000 }
-{
-    let mut n: u64 = 1;
-    for &c in text {
-        n = n % 1000 + u64::from(c < 48);
-    }
-    n
-}
-
-// Number k, from 0; 0 past the last.
-pub fn field(text: &[u8], k: u64) -> u64 {
-    let mut n: u64 = 0;
-    let mut x: u64 = 0;
-    for &c in text {
-        if (n == k) & (47 < c) {
-            x = x % 1000000 * 10 + (u64::from(c) + 208) % 256;
-        }
-        n = n % 1000 + u64::from(c < 48);
-    }
-    x
-}
-
-// ---- output
-// A line: a name and a number.
-pub fn line(rt: &impl Print, name: &[u8], n: u64) -> io::Result<()> {
-    rt.write_all(name)?;
-    println!(rt; "{n}")
 }

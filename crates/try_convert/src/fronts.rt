@@ -106,10 +106,11 @@ fn try_network(seed: u64, kind: Kind, counts: &mut Counts) {
 
 // All kinds of networks in turn, one at the limits.
 fn kind_of(i: u64) -> Kind {
-    if i % 8 == 6 && i != 6 {
+    let kind = Kind::ALL[(i % 8) as usize];
+    if kind == Kind::Limits && i != 6 {
         Kind::Small
     } else {
-        Kind::ALL[(i % 8) as usize]
+        kind
     }
 }
 

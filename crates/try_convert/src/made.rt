@@ -1,9 +1,9 @@
 // Old study files from a seed, good and damaged: the sections of a new study, arcs without their
 // kinds and rounds by node numbers.
-ghost use Rattle.std.specs.Prelude.{◌*◌, ◌≤◌, length};
+ghost use Rattle.std.specs.Prelude.{◌+◌, ◌*◌, ◌≤◌, length};
 
 use arrayvec::ArrayVec;
-use test_files::{File, Sections, of_class};
+use test_files::{File, Sections, of_class, piece};
 use test_studies::{damaged_file, numbers, some};
 use test_support::{pick, poke};
 
@@ -11,7 +11,7 @@ use test_support::{pick, poke};
 pub fn without_kinds(arcs: &[u8]) -> ArrayVec<u8, 3300> {
     let mut ends = ArrayVec::new();
     for arc in arcs.chunks_exact(3) {
-        let _ = ends.try_extend_from_slice(&arc[..2]);
+        let _ = ends.try_extend_from_slice(piece(arc, 0, 2));
     }
     ends
 }

@@ -2,13 +2,11 @@
 use mathlib.Core.Path.{ap₂, ◌∙◌}
 use mathlib.Core.Bool.{◌&&◌}
 use lib.ListN.{take, drop}
-use Rattle.orders.proofs.Orders.{first-few, first-size, first-order}
+use Rattle.orders.proofs.Orders.{first-size, first-order}
 use Rattle.orders.proofs.is_round.Goals as goal
 
-pub are_orders-requires : goal.are_orders-requires
-are_orders-requires c = let a = c.args in
-    let h = c.requires in
-    record { few = (first-few 1 a.n1 h.0, first-few 2 a.n2 h.1, h.2); sizes = (first-size 1 a.n1 h.0, first-size 2 a.n2 h.1) }
+pub are_orders-requires-clause-sizes : goal.are_orders-requires-clause-sizes
+are_orders-requires-clause-sizes c = (first-size 1 c.args.n1 c.requires.0, first-size 2 c.args.n2 c.requires.1)
 
 pub returns : goal.returns
 returns c = let a = c.args in

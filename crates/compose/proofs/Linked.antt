@@ -1,0 +1,20 @@
+-- The crate's functions as a table, each by its symbol with its code; and that a library with this table has the code of those functions that other
+-- crates call, with the code of all that they call, if it has what they call of other crates (`Below`).
+use mathlib.Core.Bool.{true}
+use prog.Linked.{Tree, World, Holds, in_world}
+use prog.LinkedThreads.{HasT}
+use Rattle.compose.proofs.TheLink as the_link
+use Rattle.compose.proofs.parallel.Symbol as parallel
+use Rattle.compose.proofs.series.Symbol as series
+
+abbrev pub table : Tree
+table = the_link.table
+
+abbrev pub Below : World → Type 0
+Below = the_link.Below
+
+pub parallel-linked : (W : World) → Holds W "compose" table → Below W → HasT (in_world W) true parallel.code
+parallel-linked = the_link.linked-compose::parallel
+
+pub series-linked : (W : World) → Holds W "compose" table → Below W → HasT (in_world W) true series.code
+series-linked = the_link.linked-compose::series
