@@ -18,7 +18,7 @@ use Rattle.soundness.specs.Tally.{width}
 use Rattle.soundness.proofs.Totals.{total-most}
 use Rattle.cells.specs.Cells.{cell_rows, held}
 use Rattle.cells.specs.declared.Along.TheVariants.{Rows, Columns}
-use Rattle.cells.specs.Steps.{changed_word, peak, peak_at, CanChange, Fitting, CellsCanChange, changed_cell, changed_cells, held_cells, starts_line, line_test, Lines}
+use Rattle.cells.specs.Steps.{changed_word, peak, peak_at, CanChange, Fitting, CellsCanChange, changed_cell, held_cells, starts_line, line_test, Lines}
 use Rattle.limits.specs.Limits.{max_class}
 use Rattle.cells.proofs.Peaks.{holds-peak, peak-next, peak-none, peak-most, turn-within}
 use Rattle.cells.proofs.Tables.{changed_part, table-length, table-snoc, row-changed}
@@ -215,11 +215,3 @@ module _ {r old : List ℕ} {n1 n2 : ℕ} (ok : Fitting old r n1 n2) where
   pub count_small : (x n : ℕ) → n ≡ held_rows r n1 n2 (n1 + 1 - x) → n ≤ (max_class + 1) * ((max_class + 1) * 1)
   count_small x n e =
       omega (arith, e, held-most, sum-part (n1 + 1 - x) (n1 + 1) (λ l1. sum_to (width n2) (held r n1 n2 l1)) (omega arith))
-
-  pub count-last : {x n : ℕ} → n ≡ held_rows r n1 n2 (n1 + 1 - x) → x ≡ 0 → n ≡ held_cells r n1 n2
-  count-last {x} e z = let f : n1 + 1 - x ≡ n1 + 1 = omega arith in e ∙ ap (held_rows r n1 n2) f
-
-  pub done-last : {up down : ℕ} {cells : List ℕ} {y at x : ℕ} → AtRow y at x → RowsDone up down r old cells n1 n2 at x → x ≡ 0 → cells ≡ changed_cells up down r n1 n2 old
-  done-last {up} {down} {cells} {y} {at} {x} s d z =
-      let e : n1 + 1 - x ≡ n1 + 1 = omega arith in
-      d.done ∙ ap₂ (λ k a. cell_rows k (width n2) (λ l1 l2. changed_cell up down r n1 n2 l1 l2 (get_or old (l1 * width n2 + l2) 0)) ++ drop a old) e (s.place ∙ ap (λ k. k * width n2) e)

@@ -5,8 +5,8 @@ use borrow.Rule.Slice.PartMut.{put_mid}
 use Prim.Native.Nat.{ℕ, zero, suc, ◌+◌, ◌-◌, ◌*◌, ◌≤◌, ◌<◌}
 use native.Mathlib.Nat.{suc-mul, zero-mul}
 use native.Mathlib.Omega.{arith}
-use lib.ListN.{length, get_or, set, take, drop, replicate, length-append, length-replicate, length-drop, length-take, replicate-append-replicate}
-use lib.Seq.{get_or-take, drop-cons, set_at, append_snoc, take-add, take-append-add, drop-append-add, get_or-append-add, get_or-drop, drop-drop}
+use lib.ListN.{length, get_or, take, drop, replicate, length-append, length-drop, length-take, replicate-append-replicate}
+use lib.Seq.{get_or-take, take-add, take-append-add, drop-append-add, get_or-append-add, get_or-drop, drop-drop}
 use Rattle.laws.specs.Lists.{list_to, list_length, list_at, list_same, list-split, take-list}
 use Rattle.cells.specs.Cells.{cell_rows}
 use Rattle.cells.specs.Steps.{changed_word}
@@ -24,14 +24,6 @@ table-zero zero m = rw (zero-mul m)
 table-zero (suc n) m =
     let e : m + n * m ≡ suc n * m = omega (arith, suc-mul n m) in
     ap₂ ◌++◌ (list-zero m) (table-zero n m) ∙ replicate-append-replicate m (n * m) 0 ∙ ap (λ k. replicate k 0) e
-
--- one zero more
-pub clear_next : (l : List ℕ) (i : ℕ) → i < length l → set (replicate i 0 ++ drop i l) i 0 ≡ replicate (i + 1) 0 ++ drop (i + 1) l
-clear_next l i h =
-    let e : i + 1 ≡ suc i = omega arith in
-    ap (λ r. set (replicate i 0 ++ r) i 0) (drop-cons l i 0 h)
-    ∙ set_at (replicate i 0) (get_or l i 0) (drop (suc i) l) 0 i (length-replicate i 0) ∙ sym (append_snoc (replicate i 0) 0 (drop (suc i) l))
-    ∙ ap₂ ◌++◌ (replicate-append-replicate i 1 0) (ap (λ k. drop k l) (sym e))
 
 -- ---- what stands where
 -- reading a cell

@@ -7,29 +7,16 @@ use native.Mathlib.Omega.{arith}
 use native.Mathlib.Numerals.{add-one}
 use lib.ListN.{length, get_or, drop}
 use lib.Seq.{drop-cons, drop-length}
-use Rattle.laws.specs.Tests.{T-ext, T_and}
-use Rattle.laws.specs.Members.{all, all_are}
+use Rattle.laws.specs.Members.{all}
 use Rattle.front.specs.declared.Pair.{Pair}
 use Rattle.front.specs.Pair.{pair_of}
-use Rattle.record.specs.Record.{pair_count, listed, in_range, follows, falls_from, falling}
+use Rattle.record.specs.Record.{pair_count, listed, in_range, follows, falls_from}
 use Rattle.record.specs.Steps.{pair_at}
 use Rattle.record.proofs.Bytes.{pair-at, listed-length}
-use Rattle.record.proofs.Records.{range-is, from_is, falling-is}
 
 -- what is left to test from place i on, after the pair `last`
 abbrev pub fit_from : ℕ → ℕ → List Pair → Pair → ℕ → Bool
 fit_from n1 n2 l last i = all (in_range n1 n2) (drop i l) && falls_from last (drop i l)
-
--- a pair in range follows (n1 + 2, 0)
-pub fit-first : (n1 n2 : ℕ) (l : List Pair) → (all (in_range n1 n2) l && falling l) ≡ fit_from n1 n2 l (pair_of (n1 + 2) 0) 0
-fit-first n1 n2 l =
-    let top = pair_of (n1 + 2) 0 in
-    let e = T_and (all (in_range n1 n2) l) (falling l) in
-    let f = T_and (all (in_range n1 n2) l) (falls_from top l) in
-    T-ext (all (in_range n1 n2) l && falling l) (all (in_range n1 n2) l && falls_from top l) (
-      λ t. let h = e.0 t in f.1 (h.0, (from_is top l).1 (λ q m. omega (arith, (range-is n1 n2 q).0 ((all_are (in_range n1 n2) l).0 h.0 q m)), (falling-is l).0 h.1)),
-      λ t. let h = f.0 t in e.1 (h.0, (falling-is l).1 ((from_is top l).0 h.1).1),
-    )
 
 -- the pair at place i, which the code reads, and whether it fits
 pub fit_next : (n1 n2 : ℕ) (b : List ℕ) (last : Pair) (i : ℕ) → length b ≡ 3 + 2 * pair_count b → i < pair_count b → {p : Pair} → p ≡ pair_at b i → {t : Bool}

@@ -49,6 +49,7 @@ pub fn holds(bytes: &[u8], a: u8, b: u8) -> bool
         return false;
     };
     let mut left = pairs;
+    // Two bytes a turn: `chunks` would call std, whose code `AlwaysEnds` (kinds) cannot open.
     while let [p1, p2, rest @ ..] = left {
         let p = Pair {
             p1: Pos(*p1),

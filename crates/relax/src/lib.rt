@@ -46,6 +46,8 @@ fn growth(level: Pos2, c: Pos2, x: Pos1, entry: Pos1) -> usize
 }
 
 // The labels of the nodes with an arc into the node at work, raised to what its level gives them.
+// Labels, stack and marks are three slices: of a struct of them each contract would have to say
+// three times more that it still holds the same reference.
 pub fn spread(net: Net, at: Step, label: &mut [u8], stack: &mut [u16], wait: &mut [u16]) -> usize
     requires { (f : Graph) × Ready f net at label.old stack.old wait.old }
     ensures work { (f : Graph) → Ready f net.entry at label.old stack.old wait.old

@@ -5,7 +5,6 @@ use mathlib.Core.Bool.{Bool, true, ◌&&◌, ◌||◌}
 use mathlib.Core.List.{List}
 use Prim.Native.Nat.{ℕ, suc, ◌+◌, ◌*◌, ◌/◌, ◌%◌, ◌≤◌, ◌<◌}
 use native.Mathlib.Nat.{le_trans, zero-add, mod-add-mod, add-mod-mod, div-add-mod', mod-lt, div-lt_iff_lt-mul}
-use native.Mathlib.Numerals.{add-one}
 use native.Mathlib.Omega.{arith}
 use lib.Arith.{digits_lt}
 use lib.Dec.{eqb, leb}
@@ -34,10 +33,6 @@ unless-is : (n l x y : ℕ) → (l < n → x ≤ y) → leb n l || leb x y ≡ t
 unless-is n l x y h = ⊎_elim (λ k. rw (le-leb n l k)) (λ k. rw (lt-leb n l k, le-leb x y (h k))) (order n l)
 
 -- ---- sums cut to a word
--- one term more
-pub cut-next : (g : ℕ → ℕ) (i s : ℕ) → s ≡ cut (sum_to i g) → cut (s + g i) ≡ cut (sum_to (i + 1) g)
-cut-next g i s e = rw (add-one i, e) (mod-add-mod (sum_to i g) 4294967296 (g i))
-
 -- all rows but the last, the last but its last cell, and that cell
 pub cut-whole : (cells : List ℕ) (n1 n2 a b c d : ℕ) → a ≡ cut (sum_from cells 0 (n1 * width n2)) → b ≡ cut (sum_from cells (n1 * width n2) n2)
     → c ≡ cut (b + get_or cells (n1 * width n2 + n2) 0) → d ≡ cut (a + c) → d ≡ cut (sum_from cells 0 ((n1 + 1) * width n2))

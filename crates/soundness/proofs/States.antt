@@ -1,12 +1,12 @@
 -- Numbers 21 and 22 of a tally, as the code comes to them.
-use mathlib.Core.Path.{◌≡◌, refl, sym, ◌∙◌}
-use mathlib.Core.Bool.{Bool, true, false, not, ◌&&◌, ◌||◌}
+use mathlib.Core.Path.{◌≡◌, sym, ◌∙◌}
+use mathlib.Core.Bool.{true, false, not, ◌&&◌, ◌||◌}
 use mathlib.Core.List.{List, [], ◌∷◌}
-use Prim.Native.Nat.{ℕ, ◌≤◌, ◌<◌, ◌+◌, ◌*◌}
+use Prim.Native.Nat.{ℕ, ◌≤◌, ◌+◌, ◌*◌}
 use native.Mathlib.Omega.{arith}
 use lib.Dec.{leb, ltb}
 use lib.ListN.{length, drop}
-use borrow.Author.Tests.{le-leb, lt-leb, le-ltb, lt-ltb, ltb-true, ltb-false, not-false}
+use borrow.Author.Tests.{le-leb, le-ltb, ltb-false, not-false}
 use Rattle.laws.specs.Sums.{product-most}
 use Rattle.limits.specs.Limits.{max_rounds, max_class}
 use Rattle.laws.specs.Tests.{or-none}
@@ -16,18 +16,6 @@ use Rattle.answer.proofs.Outcomes.{outcome-tests}
 use Rattle.soundness.specs.Tally.{head_words, tally_size1, tally_size2, rounds, tally_score, words, lacks_room, is_sound, Sound, state_tests, state_answer}
 use Rattle.soundness.specs.Steps.{is_fair}
 use Rattle.soundness.proofs.Sounds.{fair-code, sound-is}
-
--- one of two sizes is too large, or none
-not-both : (a b : ℕ) → ltb max_class a || ltb max_class b ≡ true → leb a max_class && leb b max_class ≡ false
-not-both a b e = go (ltb max_class a) refl e
-  where
-    second : (x : Bool) → x && false ≡ false
-    second true = refl
-    second false = refl
-
-    go : (x : Bool) → ltb max_class a ≡ x → x || ltb max_class b ≡ true → leb a max_class && leb b max_class ≡ false
-    go true q h = rw (lt-leb a max_class (ltb-true max_class a q))
-    go false q h = rw (lt-leb b max_class (ltb-true max_class b h)) (second (leb a max_class))
 
 -- the cells of any tally
 pub cells-most : (n1 n2 : ℕ) → n1 ≤ max_class → n2 ≤ max_class → (n1 + 1) * (n2 + 1) ≤ (max_class + 1) * (max_class + 1)
@@ -40,26 +28,14 @@ module _ (t : List ℕ) where
   unsound : lacks_room t ≡ false → is_sound t ≡ false → state_answer t ≡ refused 22
   unsound e f = rw (e, f)
 
-  pub too_short : length t < head_words → state_answer t ≡ refused 21
-  too_short h = rw (lt-ltb (length t) head_words h)
-
   module _ (long : head_words ≤ length t) where
-    pub too_large : ltb max_class (tally_size1 t) || ltb max_class (tally_size2 t) ≡ true → state_answer t ≡ refused 22
-    too_large e = rw (le-ltb (length t) head_words long, not-both (tally_size1 t) (tally_size2 t) e)
-
     module _ (small : ltb max_class (tally_size1 t) || ltb max_class (tally_size2 t) ≡ false) where
       pub sizes : (tally_size1 t ≤ max_class) × (tally_size2 t ≤ max_class)
       sizes = neither (tally_size1 t) (tally_size2 t) small
 
-      pub no_cells : length t < words (tally_size1 t) (tally_size2 t) → state_answer t ≡ refused 21
-      no_cells h = rw (le-ltb (length t) head_words long, le-leb (tally_size1 t) max_class sizes.0, le-leb (tally_size2 t) max_class sizes.1, lt-ltb (length t) (words (tally_size1 t) (tally_size2 t)) h)
-
       module _ (room : words (tally_size1 t) (tally_size2 t) ≤ length t) where
         roomy : lacks_room t ≡ false
         roomy = rw (le-ltb (length t) head_words long, le-leb (tally_size1 t) max_class sizes.0, le-leb (tally_size2 t) max_class sizes.1, le-ltb (length t) (words (tally_size1 t) (tally_size2 t)) room)
-
-        pub too_many : max_rounds < rounds t → state_answer t ≡ refused 22
-        too_many h = unsound roomy (rw (le-leb (tally_size1 t) max_class sizes.0, le-leb (tally_size2 t) max_class sizes.1, lt-leb (rounds t) max_rounds h))
 
         module _ (few : rounds t ≤ max_rounds) where
           tested : is_sound t ≡ is_fair (drop head_words t) (tally_size1 t) (tally_size2 t) (rounds t) (tally_score t)

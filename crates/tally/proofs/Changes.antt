@@ -1,8 +1,8 @@
 -- A whole tally changed: M, the cells and the score.
-use mathlib.Core.Path.{◌≡◌, sym, ap, ap₂, subst, ◌∙◌}
+use mathlib.Core.Path.{◌≡◌, sym, ap, ap₂, ◌∙◌}
 use mathlib.Core.Bool.{Bool, true, false, cond}
 use mathlib.Core.List.{List, [], ◌∷◌, ◌++◌, append-nil, append_assoc}
-use Prim.Native.Nat.{ℕ, ◌+◌, ◌-◌, ◌*◌, ◌≤◌, ◌<◌}
+use Prim.Native.Nat.{ℕ, ◌+◌, ◌-◌, ◌*◌, ◌≤◌}
 use native.Mathlib.Nat.{le_trans, mul-le-mul_left}
 use native.Mathlib.Omega.{arith}
 use lib.Dec.{T}
@@ -85,9 +85,6 @@ module _ (up down : ℕ) (r t : List ℕ) where
         (ap₂ (λ x y. head_of n1 n2 m-new (tally_score t) ++ (x ++ y))
         (table_same (n1 + 1) w (λ l1 l2. changed_cell up down r n1 n2 l1 l2 (get_or (drop head_words t) (l1 * w + l2) 0)) cells-new (λ i j p q. ap (changed_cell up down r n1 n2 i j) (get_or-drop head_words t (i * w + j) 0)))
         (drop-drop ((n1 + 1) * w) head_words t))
-
-    pub half-score : (l : List ℕ) → l ≡ half → (score_place < length l) × (get_or l score_place 0 ≡ tally_score t)
-    half-score l e = subst (λ x. (score_place < length x) × (get_or x score_place 0 ≡ tally_score t)) (sym (e ∙ half_is)) (score-at n1 n2 m-new (tally_score t) cells-now)
 
     -- the score follows the cells
     new-score : changed_word (held_cells r n1 n2 * up) (held_cells r n1 n2 * down) (tally_score t) ≡ cell_sum n1 n2 cells-new

@@ -24,28 +24,12 @@ use Rattle.tally.specs.Steps.{ready_answer, Fits}
 use Rattle.cells.specs.Steps.{Fitting}
 
 module _ (r t : List ℕ) where
-  pub ready-none : is_record r ≡ false → refused 12 ≡ ready_answer r t
-  ready-none e = rw e
-
   module _ (is : is_record r ≡ true) where
     abbrev last : List (ℕ × Bool)
     last = (23, not (fits_tally r t)) ∷ []
 
     by_state : ready_answer r t ≡ outcome (state_tests t ++ last) (0 ∷ [])
     by_state = rw is
-
-    pub ready-state : (n : ℕ) → state_answer t ≡ refused n → refused n ≡ ready_answer r t
-    ready-state n e = sym (by_state ∙ outcome-refused (state_tests t) last (0 ∷ []) (0 ∷ []) n e)
-
-    module _ (good : state_answer t ≡ success (0 ∷ [])) where
-      rest : ready_answer r t ≡ outcome last (0 ∷ [])
-      rest = by_state ∙ outcome-passed (state_tests t) last (0 ∷ []) (0 ∷ []) good
-
-      pub ready-sizes : fits_tally r t ≡ false → refused 23 ≡ ready_answer r t
-      ready-sizes e = sym (rest ∙ rw e)
-
-      pub ready-good : fits_tally r t ≡ true → success (0 ∷ []) ≡ ready_answer r t
-      ready-good e = sym (rest ∙ rw e)
 
 -- ---- a record that is ready
 module _ (r t : List ℕ) (ok : ready_answer r t ≡ success (0 ∷ [])) where

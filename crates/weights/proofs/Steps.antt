@@ -6,7 +6,7 @@ use native.Mathlib.Nat.{not-suc-le-zero, le_of_suc-le-suc, add_comm}
 use native.Mathlib.Numerals.{add-one}
 use native.Mathlib.Omega.{arith}
 use lib.ListN.{length, get_or, set, take, drop, length-append, length-drop, get_or-eq_default}
-use lib.Seq.{get_or-take, length-take-le, take_all, take_at, drop-append-add, drop-drop, drop-set-lt}
+use lib.Seq.{get_or-take, length-take-le, take_all, take_at, drop-append-add, drop-drop}
 use Rattle.chance.specs.Chance.{sends, leaves, spread, weights}
 use Rattle.chance.proofs.Weights.{spread-first, spread-next, spread-length, weights-length, weight-most}
 
@@ -107,10 +107,3 @@ module _ (p i : ℕ) (d : List ℕ) (fits : i < length d) where
 
     pub node : spread p 0 (take (i + 1) out) ++ drop (i + 1 + 1) out ≡ weights p (i + 1) ++ drop (suc (i + 1)) d
     node = rw (e, held-take, held-drop, add-one i)
-
-pub first_store : (d : List ℕ) (x : ℕ) → 0 < length d → set d 0 x ≡ (x ∷ []) ++ drop 1 (set d 0 x)
-first_store [] x h = absurd (not-suc-le-zero h)
-first_store (y ∷ d) x h = refl
-
-pub last-node : (p n i : ℕ) (d : List ℕ) (x : ℕ) {out : List ℕ} → i ≡ n → out ≡ weights p i ++ drop (suc i) (set d 0 x) → out ≡ weights p n ++ drop (n + 1) d
-last-node p n i d x e h = rw (h, e, drop-set-lt (suc n) d 0 x (omega arith), add-one n)
