@@ -1,43 +1,30 @@
 // A front record that is built pair by pair.
 #![tactic(auto)]
 
-ghost use Rattle.std.specs.Prelude.{◌≡◌, [], ◌++◌, ◌∷◌, ◌≤◌, length};
+ghost use Rattle.std.specs.Prelude.{◌≡◌, [], ◌++◌, ◌∷◌, ◌≤◌, ◌-◌, length, replicate};
 ghost use Rattle.limits.specs.Limits.{max_class};
 ghost use Rattle.answer.specs.Outcome.{written, fill_answer, fill_out};
-ghost use Rattle.record.specs.Record.{record_size1, record_size2, listed, record_bytes, front_bytes};
-ghost use Rattle.buffer.specs.Steps.{stored, Puttable};
+ghost use Rattle.record.specs.Record.{record_size1, record_size2, listed, front_bytes, longest};
+ghost use Rattle.buffer.specs.Steps.{record_in, stored, Puttable};
 
 use answer::Refusal;
 use front::Pair;
 use limits::MAX_CLASS;
-use std::marker::Model;
 
 // The most bytes that a record has: 3, and 2 for each pair.
 pub const LONGEST: usize = 3 + 2 * (MAX_CLASS + 1);
 
-// A front record: it ends with the last pair that byte 2 counts, and what is behind is not read.
-#[derive(Drop)]
+// Bytes that begin with a front record: it ends with the last pair that byte 2 counts. Plain bytes and
+// no `impl Model`: `empty` says of all of them what they are, and `deliver` takes any.
+#[derive(Clone, Copy)]
 pub struct FrontRecord {
-    bytes: [u8; LONGEST],
-}
-
-impl Model for FrontRecord {
-    ghost use Rattle.std.specs.Prelude.{List, ℕ, ◌+◌, ◌≤◌};
-    ghost use Rattle.limits.specs.Limits.{max_class};
-    ghost use Rattle.record.specs.Record.{pair_count};
-    ghost use Rattle.buffer.specs.Steps.{record_in};
-
-    ghost Value = { List ℕ };
-
-    ghost view = { λ r. record_in r.bytes };
-
-    ghost invariant = { λ r. pair_count r.bytes ≤ max_class + 1 };
+    pub bytes: [u8; LONGEST],
 }
 
 impl FrontRecord {
     // The record of no pair.
     pub fn empty(n1: u8, n2: u8) -> FrontRecord
-        ensures { result ≡ record_bytes n1 n2 [] }
+        ensures { result.bytes ≡ n1 ∷ n2 ∷ replicate (longest - 2) 0 }
     {
         let mut bytes = [0u8; LONGEST];
         bytes[0] = n1;
@@ -47,8 +34,9 @@ impl FrontRecord {
 
     // Puts one more pair into the record, which is then the front of its pairs and p.
     pub fn put(&mut self, p: Pair)
-        requires { Puttable self.old p }
-        ensures { self.new ≡ front_bytes (record_size1 self.old) (record_size2 self.old) (listed self.old ++ p ∷ []) }
+        requires { Puttable (record_in self.old.bytes) p }
+        ensures { let r = record_in self.old.bytes in
+            record_in self.new.bytes ≡ front_bytes (record_size1 r) (record_size2 r) (listed r ++ p ∷ []) }
     {
         let k = self.bytes[2];
         if k == 0 {
@@ -68,11 +56,14 @@ impl FrontRecord {
 
     // Copies the record into `out`, or refuses where `out` is shorter.
     pub fn deliver(self, out: &mut [u8]) -> Result<usize, Refusal>
-        ensures answer { written result ≡ fill_answer [] self (length out.old) }
-        ensures slice { out.new ≡ fill_out [] self out.old }
+        ensures answer { written result ≡ fill_answer [] (record_in self.bytes) (length out.old) }
+        ensures slice { out.new ≡ fill_out [] (record_in self.bytes) out.old }
     {
         let n = 3 + 2 * self.bytes[2] as usize;
-        answer::deliver(&self.bytes[..n], out)
+        if n < LONGEST {
+            return answer::deliver(&self.bytes[..n], out);
+        }
+        answer::deliver(&self.bytes, out)
     }
 }
 

@@ -6,6 +6,7 @@
 
 ghost use Rattle.std.specs.Prelude.{◌≡◌, [], ◌∷◌, length};
 ghost use Rattle.answer.specs.Outcome.{written, done, outcome};
+ghost use Rattle.buffer.specs.Steps.{record_in};
 ghost use Rattle.compose.specs.Compose.{record_tests, series_bytes, parallel_bytes, series_answer, series_out, parallel_answer, parallel_out};
 ghost use Rattle.compose.specs.Steps.{Joinable};
 
@@ -57,7 +58,7 @@ fn joinable(left: &[u8], right: &[u8]) -> Result<(), Refusal>
 // minimum with any later pair of the other record is no larger.
 fn merge_series(left: &[u8], right: &[u8]) -> FrontRecord
     requires { Joinable left.now right.now }
-    ensures { result ≡ series_bytes left.now right.now }
+    ensures { record_in result.bytes ≡ series_bytes left.now right.now }
 {
     let l = record::read_head(left);
     let k = l.k;
@@ -82,7 +83,7 @@ fn merge_series(left: &[u8], right: &[u8]) -> FrontRecord
 // The front of both lists together, taken in the order of falling p1.
 fn merge_parallel(left: &[u8], right: &[u8]) -> FrontRecord
     requires { Joinable left.now right.now }
-    ensures { result ≡ parallel_bytes left.now right.now }
+    ensures { record_in result.bytes ≡ parallel_bytes left.now right.now }
 {
     let l = record::read_head(left);
     let pairs = l.k + record::read_head(right).k;

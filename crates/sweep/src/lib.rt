@@ -3,7 +3,7 @@
 
 ghost use Rattle.std.specs.Prelude.{◌≡◌, [], ◌∷◌, ◌++◌, ℕ, ◌-◌, ◌≤◌, ◌<◌, length, get_or, MatchOption};
 ghost use Rattle.record.specs.Record.{record_size1, record_size2, listed, front_bytes};
-ghost use Rattle.buffer.specs.Steps.{Puttable};
+ghost use Rattle.buffer.specs.Steps.{record_in, Puttable};
 ghost use Rattle.network.specs.Walk.{route_pairs};
 ghost use Rattle.relax.specs.Steps.{Graph, graph_network};
 ghost use Rattle.sweep.specs.Steps.{Sweepable, Blank, NoneIn, NextIn};
@@ -15,10 +15,10 @@ use relax::{Net, Step};
 
 // Puts the pair, where its p2 is above the last.
 fn collect(found: &mut FrontRecord, p: Pair, last: Pos2)
-    requires { last.0 < p.p2.0 → Puttable found.old p }
+    requires { last.0 < p.p2.0 → Puttable (record_in found.old.bytes) p }
     ensures same { p.p2.0 ≤ last.0 → found.new ≡ found.old }
-    ensures more { last.0 < p.p2.0 → found.new
-        ≡ front_bytes (record_size1 found.old) (record_size2 found.old) (listed found.old ++ p ∷ []) }
+    ensures more { let r = record_in found.old.bytes in
+        last.0 < p.p2.0 → record_in found.new.bytes ≡ front_bytes (record_size1 r) (record_size2 r) (listed r ++ p ∷ []) }
 {
     if last.at_least(p.p2) {
         return;
@@ -53,7 +53,7 @@ pub fn sweep(
     requires network { (f : Graph) × Sweepable f net order.now n2 begin }
     requires blank { Blank net.capacities.now label.old stack.old }
     ensures { (f : Graph) → Sweepable f net.entry order.now n2 begin
-        → result ≡ front_bytes f.n1 f.n2 (route_pairs (graph_network f)) }
+        → record_in result.bytes ≡ front_bytes f.n1 f.n2 (route_pairs (graph_network f)) }
 {
     let mut wait = [0u16; MAX_POSITION + 1];
     let mut found = FrontRecord::empty(order.len() as u8, n2);

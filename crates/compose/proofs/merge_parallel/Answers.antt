@@ -1,8 +1,9 @@
 -- `compose::merge_parallel`: the record has collected all pairs but those that are left (`Merging either max`).
-use mathlib.Core.Path.{◌≡◌, sym, ◌∙◌}
+use mathlib.Core.Path.{◌≡◌, sym, ap, ◌∙◌}
 use Prim.Native.Nat.{◌+◌, ◌-◌}
 use native.Mathlib.Omega.{arith}
 use borrow.Author.Tests.{leb-true, leb-false}
+use Rattle.buffer.specs.Steps.{record_in}
 use Rattle.compose.proofs.Merges.{merging-none, left-puttable, right-puttable, parallel-left, parallel-right, parallel-done, pair_is, count-is}
 use Rattle.compose.proofs.merge_parallel.Goals as goal
 use Rattle.compose.proofs.merge_parallel.Goals.{then-at_least, else-at_least}
@@ -12,7 +13,7 @@ loop-n-init c =
     let l = c.read_head-l.ensures in
     let k = count-is c.args.left.now c.requires.left_is l.2 in
     let m = count-is c.args.right.now c.requires.right_is c.read_head.ensures.2 in
-    (merging-none c.requires l.0 l.1 c.empty-joined.ensures, omega arith, omega arith)
+    (merging-none c.requires l.0 l.1 (ap record_in c.empty-joined.ensures), omega arith, omega arith)
 
 pub put-requires : goal.put-requires
 put-requires c =

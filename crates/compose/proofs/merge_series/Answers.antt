@@ -1,9 +1,10 @@
 -- `compose::merge_series`: the record has collected all minima but those of the pairs that are left (`Merging both min`).
-use mathlib.Core.Path.{sym, ◌∙◌}
+use mathlib.Core.Path.{sym, ap, ◌∙◌}
 use mathlib.Core.Logic.{inl, inr}
 use native.Mathlib.Nat.{le_of_lt}
 use native.Mathlib.Omega.{arith}
 use borrow.Author.Tests.{leb-true, leb-false}
+use Rattle.buffer.specs.Steps.{record_in}
 use Rattle.compose.proofs.Merges.{merging-none, series-puttable, series-left, series-right, series-done, pair_is, count-is}
 use Rattle.compose.proofs.merge_series.Goals as goal
 
@@ -12,7 +13,7 @@ loop-i-init c =
     let l = c.read_head-l.ensures in
     let k = count-is c.args.left.now c.requires.left_is l.2 in
     let m = count-is c.args.right.now c.requires.right_is c.read_head-m.ensures.2 in
-    (merging-none c.requires l.0 l.1 c.empty-joined.ensures, k.0, m.0, k.1, m.1)
+    (merging-none c.requires l.0 l.1 (ap record_in c.empty-joined.ensures), k.0, m.0, k.1, m.1)
 
 pub returns-else-j-m : goal.returns-else-j-m
 returns-else-j-m c = series-done c.loop-i.invariant.0 (inr (omega arith))

@@ -2,6 +2,7 @@
 use Prim.Native.Nat.{ℕ}
 use native.Mathlib.Omega.{arith}
 use lib.ListN.{length-replicate}
+use Rattle.buffer.specs.Steps.{record_in}
 use Rattle.search.proofs.Rounds.{may-sweep, is_front}
 use Rattle.search.proofs.search_within.Goals as goal
 
@@ -13,4 +14,4 @@ sweep-requires-clause-network g c =
 pub returns : goal.returns
 returns g c =
     let q = c.requires in
-    is_front q.given g.row.SIZE q.elements.0 q.elements.1 _ (omega (arith, length-replicate {A = ℕ} g.row.PLACES 0, q.places)) _ c.begin_at-begin.ensures.placed c.link.ensures c.sweep.result c.sweep.ensures
+    is_front q.given g.row.SIZE q.elements.0 q.elements.1 _ (omega (arith, length-replicate {A = ℕ} g.row.PLACES 0, q.places)) _ c.begin_at-begin.ensures.placed c.link.ensures (record_in c.sweep.result.bytes) c.sweep.ensures

@@ -5,6 +5,7 @@ use Prim.Native.Nat.{◌+◌, ◌/◌}
 use native.Mathlib.Omega.{arith}
 use lib.ListN.{length, get_or}
 use Rattle.record.specs.Record.{record_bytes}
+use Rattle.buffer.specs.Steps.{record_in}
 use Rattle.sweep.proofs.Turns.{begins-at, floodable, puttable, collected, ended, onward}
 use Rattle.sweep.proofs.sweep.Goals as goal
 
@@ -13,7 +14,7 @@ loop-next-init c =
     let b = c.args.begin in
     let caps = c.args.net.capacities.now in (
       λ f p.
-          begins-at p.laid p.lent p.by_order p.within (c.empty-found.ensures ∙ ap₂ (λ a b. record_bytes a b []) p.sizes.0 p.sizes.1) c.requires.blank
+          begins-at p.laid p.lent p.by_order p.within (ap record_in c.empty-found.ensures ∙ ap₂ (λ a b. record_bytes a b []) p.sizes.0 p.sizes.1) c.requires.blank
           b.x.0 p.begins p.some b.node (get_or caps (length caps / 2 + b.node) 0) p.enters refl,
       refl,
     )
@@ -34,7 +35,7 @@ returns-in_default c = λ f p.
     let settled = c.flood.ensures.settled f (floodable c.args.begin l refl p.source) in
     let is = ap (λ i. get_or c.flood.new.label i 0) p.source in
     let n = c.collect.ensures in
-    ended l settled _ is (collected l settled _ is n.same n.more) c.in_default.ensures
+    ended l settled _ is (collected l settled _ is (λ h. ap (λ r. record_in r.bytes) (n.same h)) n.more) c.in_default.ensures
 
 pub loop-next-preserved : goal.loop-next-preserved
 loop-next-preserved c = (
@@ -43,6 +44,6 @@ loop-next-preserved c = (
       let settled = c.flood.ensures.settled f (floodable c.args.begin l refl p.source) in
       let is = ap (λ i. get_or c.flood.new.label i 0) p.source in
       let n = c.collect.ensures in
-      onward l settled _ is (collected l settled _ is n.same n.more) c.in-Some.ensures c.flood.ensures.long,
+      onward l settled _ is (collected l settled _ is (λ h. ap (λ r. record_in r.bytes) (n.same h)) n.more) c.in-Some.ensures c.flood.ensures.long,
   omega (arith, c.loop-next.invariant.1, c.flood.ensures.long.levels),
 )

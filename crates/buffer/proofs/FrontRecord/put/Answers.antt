@@ -1,32 +1,23 @@
 -- `put` has four cases: the first pair, a pair that the last one covers, one that dominates it, and one behind it.
-use mathlib.Core.Path.{sym, ◌∙◌}
-use Prim.Native.Nat.{◌≤◌}
+use mathlib.Core.Path.{refl, sym, ◌∙◌}
 use native.Mathlib.Omega.{arith}
-use Rattle.std.proofs.lemmas.Grind.{common_steps}
-use Rattle.limits.specs.Limits.{max_class}
-use Rattle.record.specs.Record.{pair_count}
 use Rattle.buffer.proofs.Builds.{room, wrote-first, wrote_nothing, wrote-over, wrote-behind}
 use Rattle.buffer.proofs.FrontRecord.put.Goals as goal
 
 pub returns-then-k-eq0 : goal.returns-then-k-eq0
-returns-then-k-eq0 c = wrote-first c.requires c.self.inside.bytes c.self.view_is (omega arith) c.if-k-eq0.true c.place.ensures
+returns-then-k-eq0 c = wrote-first c.requires c.args.self.now.bytes refl (omega arith) c.if-k-eq0.true c.place.ensures
 
 pub returns-then-covers : goal.returns-then-covers
-returns-then-covers c = wrote_nothing c.requires c.self.inside.bytes c.self.view_is (omega arith) (omega arith) c.pair_at-last.ensures (sym c.covers.ensures ∙ c.if-covers.true)
+returns-then-covers c = wrote_nothing c.requires c.args.self.now.bytes refl (omega arith) (omega arith) c.pair_at-last.ensures (sym c.covers.ensures ∙ c.if-covers.true)
 
 pub returns-then-dominates : goal.returns-then-dominates
 returns-then-dominates c =
-    wrote-over c.requires c.self.inside.bytes c.self.view_is (omega arith) (omega arith) c.pair_at-last.ensures (sym c.dominates.ensures ∙ c.if-dominates.true) c.place-then-dominates.ensures
+    wrote-over c.requires c.args.self.now.bytes refl (omega arith) (omega arith) c.pair_at-last.ensures (sym c.dominates.ensures ∙ c.if-dominates.true) c.place-then-dominates.ensures
 
 pub place-requires-2 : goal.place-requires-2
 place-requires-2 c =
-    room c.requires c.self.inside.bytes c.self.view_is (omega arith) (omega arith) c.pair_at-last.ensures (sym c.covers.ensures ∙ c.if-covers.false) (sym c.dominates.ensures ∙ c.if-dominates.false)
-
-pub invariant_of-self-2 : goal.invariant_of-self-2
-invariant_of-self-2 c =
-    let r : pair_count c.self.inside.bytes ≤ max_class = room c.requires c.self.inside.bytes c.self.view_is (omega arith) (omega arith) c.pair_at-last.ensures (sym c.covers.ensures ∙ c.if-covers.false) (sym c.dominates.ensures ∙ c.if-dominates.false) in
-    grind (arith, common_steps)
+    room c.requires c.args.self.now.bytes refl (omega arith) (omega arith) c.pair_at-last.ensures (sym c.covers.ensures ∙ c.if-covers.false) (sym c.dominates.ensures ∙ c.if-dominates.false)
 
 pub returns : goal.returns
 returns c =
-    wrote-behind c.requires c.self.inside.bytes c.self.view_is (omega arith) (omega arith) c.pair_at-last.ensures (sym c.covers.ensures ∙ c.if-covers.false) (sym c.dominates.ensures ∙ c.if-dominates.false) c.place-2.ensures
+    wrote-behind c.requires c.args.self.now.bytes refl (omega arith) (omega arith) c.pair_at-last.ensures (sym c.covers.ensures ∙ c.if-covers.false) (sym c.dominates.ensures ∙ c.if-dominates.false) c.place-2.ensures
