@@ -89,6 +89,7 @@ pub fn deliver(bytes: &[u8], out: &mut [u8]) -> Result<usize, Refusal>
     if out.len() < bytes.len() {
         return Err(Refusal::OutputShort);
     }
+    // A loop: `copy_from_slice` would call std, whose code `AlwaysEnds` (kinds) cannot open.
     for (i, &x) in bytes.iter().enumerate() {
         out[i] = x;
     }

@@ -15,6 +15,7 @@ pub struct Pair {
     pub p2: Pos2,
 }
 
+// By the methods of `Pos`, and without derives, for the reason given there.
 impl Pair {
     // The smaller position of each class.
     pub fn min(self, other: Pair) -> Pair

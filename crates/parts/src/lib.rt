@@ -187,6 +187,7 @@ pub fn test_parts(nodes: &[u8], arcs: &[u8]) -> Result<Sizes, Refusal>
     if bad_classes(nodes) {
         return Err(Refusal::NodeClass);
     }
+    // No `?`: it would call std, whose code `AlwaysEnds` (kinds) cannot open.
     match count_arcs(nodes.len() as u8, arcs) {
         Err(r) => Err(r),
         Ok(of_arcs) => {

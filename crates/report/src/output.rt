@@ -5,7 +5,8 @@ ghost use Rattle.std.specs.Prelude.{◌≡◌, true, ◌+◌, ◌<◌, length};
 ghost use Rattle.laws.specs.Tests.{flag};
 ghost use Rattle.lines.specs.Report.{report_lines, line_at};
 
-// How many lines of a report the system took, in order from line 0, and whether none failed.
+// How many lines of a report the system took, in order from line 0, and whether none failed. No Option: both
+// are told of every receipt.
 #[derive(Clone, Copy)]
 pub struct Sent {
     lines: usize,

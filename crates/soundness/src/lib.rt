@@ -23,7 +23,8 @@ pub const LARGEST: usize = HEAD + (MAX_CLASS + 1) * (MAX_CLASS + 1);
 // M of a tally that takes no more rounds.
 pub const FULL: u32 = MAX_ROUNDS as u32;
 
-// What a pass over cells finds: whether each is at most another, and their sum, cut to a word.
+// What a pass over cells finds: whether each is at most another, and their sum, cut to a word. No Option:
+// a pass without a branch finds both.
 #[derive(Clone, Copy)]
 struct Passed {
     rises: bool,

@@ -82,7 +82,7 @@ fn ready(record: &[u8], tally: &[u32]) -> Result<(), Refusal>
     if !record::is_record(record) {
         return Err(Refusal::NotRecord);
     }
-    // No `?`: it would call std, whose code `AlwaysEnds` (kinds) cannot open.
+    // No `?`, here and in `add` and `remove`: it would call std, whose code `AlwaysEnds` (kinds) cannot open.
     if let Err(r) = soundness::check(tally) {
         return Err(r);
     }
