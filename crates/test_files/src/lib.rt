@@ -9,7 +9,7 @@ use arrayvec::ArrayVec;
 use test_support::byte;
 
 // The bytes of a study file, at most so many.
-pub type File = ArrayVec<u8, 8192>;
+pub type File = ArrayVec<u8, 30132>;
 
 // The numbers of the first two tests that applied.
 #[derive(Clone, Copy, Default)]
@@ -53,7 +53,7 @@ pub struct Sections<'a> {
     pub arcs: &'a [u8],
     pub rounds: &'a [u8],
     pub numbers: Numbers,
-    ghost small: { (length nodes.now + length arcs.now + length rounds.now ≤ 8000) × (numbers.rounds < 4294967296) },
+    ghost small: { (length nodes.now ≤ 10000) × (length arcs.now ≤ 10000) × (numbers.rounds < 4294967296) },
 }
 
 // A trailer: N, A, M, s, t, and how far before the trailer each section begins.
@@ -112,26 +112,27 @@ impl Trailer {
 }
 
 // How many bytes are x.
-pub fn of_class(bytes: &[u8], x: u8) -> usize
+pub fn of_class(bytes: &[u8], x: usize) -> usize
     ensures { result ≤ length bytes.now }
 {
-    bytes.iter().filter(|&&b| b == x).count()
+    bytes.iter().filter(|&&b| usize::from(b) == x).count()
 }
 
 // How many arcs are of a class: one way, or both ways.
-pub fn arcs_of_class(arcs: &[u8], class: u8) -> usize
+pub fn arcs_of_class(arcs: &[u8], class: usize) -> usize
     requires { class ≤ 2 }
     ensures { result ≤ length arcs.now }
 {
     arcs.iter()
         .skip(2)
         .step_by(3)
-        .filter(|&&kind| (kind == class) | (kind == class + 3))
+        .map(|&kind| usize::from(kind))
+        .filter(|&kind| (kind == class) | (kind == class + 3))
         .count()
 }
 
 // How many members a class has: nodes and arcs.
-pub fn members(nodes: &[u8], arcs: &[u8], class: u8) -> usize
+pub fn members(nodes: &[u8], arcs: &[u8], class: usize) -> usize
     requires { (length nodes.now ≤ 10000) × (length arcs.now ≤ 10000) × (class ≤ 2) }
     ensures { result ≤ length nodes.now + length arcs.now }
 {
@@ -322,7 +323,7 @@ pub fn round(file: &[u8], round: usize) -> &[u8]
 
 // A file of these sections, good or bad, behind so many bytes.
 pub fn file(s: Sections<'_>, front: usize) -> File
-    requires { front ≤ 100 }
+    requires { (length s.rounds.now ≤ 10000) × (front ≤ 100) }
     ensures { array_vec_len result ≡ front + length s.entry.nodes.now + length s.entry.arcs.now + length s.entry.rounds.now + 32 }
 {
     let n = s.nodes.len();

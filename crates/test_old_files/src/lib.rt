@@ -2,7 +2,7 @@
 // of node numbers, and of the converter. Trailer and nodes are read as in new files.
 #![tactic(auto)]
 
-ghost use Rattle.std.specs.Prelude.{◌≤◌, length, IfSome};
+ghost use Rattle.std.specs.Prelude.{◌*◌, ◌≤◌, length, IfSome};
 ghost use Rattle.arrayvec.specs.ArrayVec.{array_vec_len};
 
 use arrayvec::ArrayVec;
@@ -68,11 +68,14 @@ pub fn converting(file: &[u8]) -> Judged
 // The place of node v in its class: how many before it are of the class.
 fn place(nodes: &[u8], v: u8) -> u8 {
     let v = usize::from(v);
-    (of_class(piece(nodes, 0, v), num(nodes, v) as u8) % 256) as u8
+    (of_class(piece(nodes, 0, v), num(nodes, v)) % 256) as u8
 }
 
-// Arcs of two bytes as entries of kind 0; a good file has at most 1024.
-pub fn with_kinds(arcs: &[u8]) -> ArrayVec<u8, 3072> {
+// Arcs of two bytes as entries of kind 0.
+pub fn with_kinds(arcs: &[u8]) -> ArrayVec<u8, 15000>
+    requires { length arcs.now ≤ 10000 }
+    ensures { 2 * array_vec_len result ≤ 3 * length arcs.now }
+{
     let mut entries = ArrayVec::new();
     for arc in arcs.chunks_exact(2) {
         let _ = entries.try_extend_from_slice(arc);
@@ -84,15 +87,15 @@ pub fn with_kinds(arcs: &[u8]) -> ArrayVec<u8, 3072> {
 // The new file of an old one that is good; none where it is too long.
 pub fn convert(file: &[u8]) -> Option<File>
     requires { length file.now ≤ 10000 }
-    ensures { IfSome result (λ f. 32 ≤ array_vec_len f) }
+    ensures { IfSome result (λ f. (32 ≤ array_vec_len f) × (array_vec_len f ≤ 30000)) }
 {
     let nodes = nodes_of(file);
     let arcs = with_kinds(arcs_of(file));
-    let mut rounds = File::try_from(rounds_of(file)).ok()?;
+    let mut rounds = ArrayVec::<u8, 10000>::try_from(rounds_of(file)).ok()?;
     for v in rounds.iter_mut() {
         *v = place(nodes, *v);
     }
-    if 8000 < nodes.len() + arcs.len() + rounds.len() {
+    if 4000 < arcs.len() {
         return None;
     }
     let sections = Sections {

@@ -335,7 +335,9 @@ impl Study {
         }
     }
 
-    pub fn sections(&self) -> Sections<'_> {
+    pub fn sections(&self) -> Sections<'_>
+        ensures { (length result.nodes.now ≤ 200) × (length result.arcs.now ≤ 3200) × (length result.rounds.now ≤ 4001) }
+    {
         Sections {
             nodes: &self.nodes,
             arcs: &self.arcs,
@@ -365,7 +367,10 @@ fn hurt(seed: u64, use_of: u64, file: &mut [u8])
 }
 
 // A file of these sections with up to three damages, and at times another length.
-pub fn damaged_file(seed: u64, s: Sections<'_>) -> File {
+pub fn damaged_file(seed: u64, s: Sections<'_>) -> File
+    requires { length s.rounds.now ≤ 10000 }
+    ensures { array_vec_len result ≤ 36 + length s.entry.nodes.now + length s.entry.arcs.now + length s.entry.rounds.now }
+{
     let mut file = file(s, some(seed, 51, 4));
     for i in 0..3 {
         hurt(seed, 100 + 10 * i, &mut file);
@@ -393,11 +398,11 @@ pub fn from_0_to_1(arcs: usize, rounds: usize) -> Numbers
 }
 
 // 161 nodes, the first k of them of a class.
-pub fn first_of_class(class: u8, k: usize) -> [u8; 161]
+pub fn first_of_class(class: usize, k: usize) -> [u8; 161]
     ensures { length result ≡ 161 }
 {
     let mut nodes = [0; 161];
-    nodes[..k.min(161)].fill(class);
+    nodes[..k.min(161)].fill((class % 256) as u8);
     nodes
 }
 

@@ -54,14 +54,10 @@ pub fn copied(words: &[u32]) -> Words
 }
 
 // Words that are no tally's.
-pub fn junk(seed: u64, n: usize) -> Words
-    requires { n ≤ 4240 }
-{
-    let mut words = Words::new();
-    for i in 0..n {
-        words.push(pick(seed, i as u64, 5) as u32);
+pub fn junk(seed: u64, t: &mut [u32]) {
+    for (i, x) in t.iter_mut().enumerate() {
+        *x = pick(seed, i as u64, 5) as u32;
     }
-    words
 }
 
 // ---- counts
@@ -337,12 +333,12 @@ pub fn changed(r: &[u8], t: &Words, step: Step) -> Words {
     after
 }
 
-// n1 = n2 = 64, and every cell is m, which is M: no sum is larger for this M.
-pub fn level(m: u32) -> Words {
+// n1 = n2 = 64, and every cell is m, modulo 2^32, which is M: no sum is larger for this M.
+pub fn level(m: u64) -> Words {
     let mut words = [0; 4240];
     words[0] = 64;
     words[1] = 64;
-    words[ROUNDS..HEAD + 4225].fill(m);
+    words[ROUNDS..HEAD + 4225].fill((m % LIMIT) as u32);
     put_score(&mut words);
     Words::from(words)
 }

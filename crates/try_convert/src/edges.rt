@@ -22,7 +22,7 @@ fn try_file(rt: &impl Print, file: &[u8], room: usize, due: u32, wrong: &mut u64
 
 // N, A, M, a class, how many nodes are of it, where the arcs from 0 lead, and what is due: 2, 6 and
 // 8, and 6 before 8.
-const SECTIONS: [(usize, u32, u32, u8, usize, u8, u32); 15] = [
+const SECTIONS: [(usize, u32, u32, usize, usize, u8, u32); 15] = [
     (1, 0, 0, 1, 0, 1, 2),
     (2, 0, 0, 1, 0, 1, 0),
     (160, 0, 0, 1, 0, 1, 0),

@@ -1,5 +1,6 @@
 // Fronts of converted studies against removal testing on the old ones, read plainly.
 ghost use Rattle.std.specs.Prelude.{◌≤◌, length};
+ghost use Rattle.arrayvec.specs.ArrayVec.{array_vec_len};
 
 use crate::Counts;
 use crate::made::{by_numbers, without_kinds};
@@ -11,7 +12,7 @@ use test_support::{byte, part};
 
 // ---- old networks
 // A class size; none is above 64.
-fn size(nodes: &[u8], class: u8) -> usize
+fn size(nodes: &[u8], class: usize) -> usize
     ensures { result ≤ 64 }
 {
     of_class(nodes, class).min(64)
@@ -31,7 +32,9 @@ fn rounds_of(seed: u64, nodes: &[u8]) -> Rounds
 }
 
 // The old file of a network with four rounds.
-fn old_file(seed: u64, kind: Kind) -> File {
+fn old_file(seed: u64, kind: Kind) -> File
+    ensures { array_vec_len result ≤ 8000 }
+{
     let network = test_networks::shape_of(seed, kind, Pipes::Kind0).network();
     let arcs = without_kinds(network.arcs.as_flattened());
     let rounds = rounds_of(seed, &network.nodes);

@@ -1,27 +1,31 @@
 // Old study files from a seed, good and damaged: the sections of a new study, arcs without their
 // kinds and rounds by node numbers.
 ghost use Rattle.std.specs.Prelude.{◌+◌, ◌*◌, ◌≤◌, length};
+ghost use Rattle.arrayvec.specs.ArrayVec.{array_vec_len};
 
 use arrayvec::ArrayVec;
-use test_files::{File, Sections, of_class, piece};
+use test_files::{File, Sections, of_class};
 use test_studies::{damaged_file, numbers, some};
 use test_support::{pick, poke};
 
 // The two ends of each entry.
-pub fn without_kinds(arcs: &[u8]) -> ArrayVec<u8, 3300> {
+pub fn without_kinds(arcs: &[u8]) -> ArrayVec<u8, 6666>
+    requires { length arcs.now ≤ 10000 }
+    ensures { 3 * array_vec_len result ≤ 2 * length arcs.now }
+{
     let mut ends = ArrayVec::new();
     for arc in arcs.chunks_exact(3) {
-        let _ = ends.try_extend_from_slice(piece(arc, 0, 2));
+        let _ = ends.try_extend_from_slice(&arc[..2]);
     }
     ends
 }
 
 // The node at a place of a class; no node where the class has no such place.
-fn member(nodes: &[u8], class: u8, place: usize) -> usize {
+fn member(nodes: &[u8], class: usize, place: usize) -> usize {
     nodes
         .iter()
         .enumerate()
-        .filter(|&(_, &x)| x == class)
+        .filter(|&(_, &x)| usize::from(x) == class)
         .nth(place)
         .map_or(nodes.len(), |(v, _)| v)
 }
@@ -66,7 +70,9 @@ fn rounds_of(seed: u64, nodes: &[u8], total: usize) -> ArrayVec<u8, 4001>
 }
 
 // The old file of a seed, damaged or not.
-pub fn old_file(seed: u64) -> File {
+pub fn old_file(seed: u64) -> File
+    ensures { array_vec_len result ≤ 8000 }
+{
     let nodes = test_studies::nodes(seed);
     let mut arcs = without_kinds(&test_studies::arcs(seed, nodes.len()));
     let total = test_studies::total(seed);

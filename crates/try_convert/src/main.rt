@@ -50,7 +50,7 @@ fn convert(file: &[u8], short: usize) -> (Judged, bool)
         return (due, false);
     };
     let due = due.note(short == 0, 15);
-    let mut out = [UNTOUCHED; 8200];
+    let mut out = [UNTOUCHED; 30003];
     let got = convert::convert(file, &mut out[..new.len() + short - 1]);
     (due, wrote_right(&new, due, got, &out))
 }

@@ -349,7 +349,8 @@ fn try_case(i: u64, counts: &mut Counts) {
         make_entry(seed, s, 2),
         make_entry(seed, s, 3),
     ];
-    let mut words = junk(seed, room(seed, s));
+    let mut words = copied(&[0; 4240][..room(seed, s)]);
+    junk(seed, &mut words);
     let made = tally::new(s.n1 as u32, s.n2 as u32, &mut words).is_ok();
     let legal = is_legal(seed);
     let own = made & (legal | (pick(seed, 54, 2) == 0));

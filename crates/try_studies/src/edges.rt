@@ -1,6 +1,6 @@
 // Each limit from both sides, and numbers that apply together: lists of cases, each with the number
 // that is due from the library and from the plain reading, 0 for a success.
-ghost use Rattle.std.specs.Prelude.{◌*◌, ◌≤◌, length};
+ghost use Rattle.std.specs.Prelude.{◌≡◌, ◌*◌, ◌≤◌, length};
 
 use std::io;
 use test_answers::number;
@@ -118,7 +118,7 @@ const SIZES: [[u8; 4]; 12] = [
 
 fn try_sizes(rt: &impl Print, wrong: &mut u64) -> io::Result<()> {
     for [class, x, y, due] in SIZES {
-        let nodes = first_of_class(class, usize::from(x));
+        let nodes = first_of_class(usize::from(class), usize::from(x));
         let arcs = entries(&[0, 1, if class == 1 { 1 } else { 5 }]);
         print!(rt; "class {class} nodes {x} arcs {y}")?;
         let arcs = piece(&arcs, 0, 3 * usize::from(y));
@@ -203,7 +203,9 @@ fn try_orders(rt: &impl Print, wrong: &mut u64) -> io::Result<()> {
 }
 
 // Their file with a byte in front: s 0, t 1, dN 15, dA 12, dM 6, the trailer at 16.
-fn small_file() -> File {
+fn small_file() -> File
+    ensures { length result.items ≡ 48 }
+{
     test_studies::small_file(&NODES, &ARCS, &[0, 1, 0, 1, 0, 0])
 }
 

@@ -75,7 +75,7 @@ fn try_round(file: &[u8], round: usize, counts: &mut Counts)
 
 // The writer into a slice of this room, and every byte behind it.
 fn try_write(s: Sections<'_>, short: usize, counts: &mut Counts)
-    requires { short ≤ 100 }
+    requires { (length s.nodes.now ≤ 200) × (length s.arcs.now ≤ 3200) × (length s.rounds.now ≤ 4001) × (short ≤ 100) }
 {
     let file = test_files::file(s, 0);
     // One byte short, exactly long enough, or longer.
@@ -108,7 +108,7 @@ fn try_file(file: &[u8], seed: u64, total: usize, counts: &mut Counts)
 
 // ---- studies
 // Counts a class of 64 or 65 members by the sorts that it has.
-fn note_class(s: &Study, class: u8, counts: &mut Counts)
+fn note_class(s: &Study, class: usize, counts: &mut Counts)
     requires { class ≤ 2 }
 {
     let nodes = test_files::of_class(&s.nodes, class);

@@ -243,7 +243,8 @@ impl Case {
     fn new(i: u64) -> Self {
         let seed = test_support::seed(i);
         let sizes = sizes_of(seed, i);
-        let words = junk(seed, room(seed, sizes));
+        let mut words = copied(&[0; 4240][..room(seed, sizes)]);
+        junk(seed, &mut words);
         Case { seed, sizes, words }
     }
 
