@@ -1,17 +1,15 @@
 -- One turn of each loop: arcs two bytes by two, tested or written, and the table of places.
 use mathlib.Core.Path.{◌≡◌, refl, sym, ap, ◌∙◌}
-use mathlib.Core.Logic.{⊎_elim}
 use mathlib.Core.Bool.{Bool, ◌||◌, or_assoc, or-false}
 use mathlib.Core.List.{List, [], ◌∷◌, ◌++◌, map}
 use Prim.Native.Nat.{ℕ, zero, suc, ◌+◌, ◌*◌, ◌/◌, ◌≤◌, ◌<◌}
 use native.Mathlib.Numerals.{add-one}
 use native.Mathlib.Omega.{arith}
 use lib.ListN.{length, get_or, set, take, drop, length-drop, length-map}
-use lib.Seq.{length-take-le, take-length, get_or-set_same, get_or-set_other, paste, paste-suc, length-paste}
+use lib.Seq.{length-take-le, take-length, paste, paste-suc, length-paste}
 use Rattle.limits.specs.Limits.{arc_size}
 use Rattle.laws.specs.Members.{any}
 use Rattle.laws.specs.Parts.{drop-two}
-use Rattle.laws.specs.Tests.{equal}
 use Rattle.orders.specs.Order.{place_in_class}
 use Rattle.slices.proofs.Placing.{placed-next}
 use Rattle.slices.specs.Steps.{placed}
@@ -83,11 +81,6 @@ kinds-all (x ∷ y ∷ b) =
 -- ---- the table of places, of the nodes before v
 abbrev pub TableTo : ℕ → List ℕ → List ℕ → Type 0
 TableTo v nodes table = (u : ℕ) → u < v → get_or table u 0 ≡ place_in_class nodes u
-
-pub table-next : (v : ℕ) (nodes table : List ℕ) (x : ℕ) → v < length table → x ≡ place_in_class nodes v → TableTo v nodes table → TableTo (v + 1) nodes (set table v x)
-table-next v nodes table x h e t u k =
-    ⊎_elim (λ (q : u ≡ v). ap (λ i. get_or (set table v x) i 0) q ∙ get_or-set_same table v x 0 h ∙ e ∙ ap (place_in_class nodes) (sym q))
-    (λ q. get_or-set_other table v u x 0 q ∙ t u (omega arith)) (equal u v)
 
 -- ---- bytes by a table
 module _ (f : ℕ → ℕ) (b d : List ℕ) (at : ℕ) (room : at + length b ≤ length d) where

@@ -7,7 +7,7 @@ use native.Mathlib.Numerals.{add-one}
 use native.Mathlib.Omega.{arith}
 use lib.Dec.{eqb}
 use lib.ListN.{length, get_or, drop, length-drop}
-use lib.Seq.{drop-cons, drop-length}
+use lib.Seq.{drop-cons}
 use Rattle.limits.specs.Limits.{arc_size, arc_count}
 use Rattle.laws.specs.Members.{any}
 use Rattle.laws.specs.Parts.{drop-two}
@@ -25,9 +25,6 @@ module _ {A : Type 0} (f : A → Bool) where
 -- node bytes
 pub any_next : (f : ℕ → Bool) (b : Bool) (l : List ℕ) (i : ℕ) → i < length l → (b || any f (drop i l)) ≡ (b || f (get_or l i 0) || any f (drop (i + 1) l))
 any_next f b l i h = rw (add-one i, drop-cons l i 0 h) (more f b (get_or l i 0) (drop (suc i) l))
-
-pub any-end : (f : ℕ → Bool) (b : Bool) (l : List ℕ) (i : ℕ) → i ≡ length l → (b || any f (drop i l)) ≡ b
-any-end f b l i e = rw (e, drop-length l, or-false b)
 
 -- ---- entries, three bytes each
 pub drop-three : (l : List ℕ) (n : ℕ) → n + 2 < length l → drop n l ≡ get_or l n 0 ∷ get_or l (n + 1) 0 ∷ get_or l (n + 2) 0 ∷ drop (n + 3) l

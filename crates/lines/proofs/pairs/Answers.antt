@@ -1,5 +1,4 @@
 -- `lines::pairs` writes pair after pair.
-use mathlib.Core.Bool.{false}
 use mathlib.Core.List.{◌++◌}
 use mathlib.Core.Path.{◌≡◌, ap, ◌∙◌}
 use native.Mathlib.Omega.{arith}
