@@ -338,10 +338,10 @@ pub fn of_class(nodes: &[u8], class: u8) -> usize {
 }
 
 // How many arcs are of a kind.
-pub fn of_kind(arcs: &[Arc], kind: u8) -> usize
+pub fn of_kind(arcs: &[Arc], kind: u64) -> usize
     ensures { result ≤ length arcs.now }
 {
-    arcs.iter().filter(|arc| arc[2] == kind).count()
+    arcs.iter().filter(|arc| u64::from(arc[2]) == kind).count()
 }
 
 // Whether two arcs join the same nodes, whichever way, and are of differing kinds.

@@ -33,7 +33,7 @@ fn arcs_alone(study: &Study) -> bool {
 fn note_arcs(study: &Study, features: &mut Features) {
     let arcs = study.made.arcs.as_slice();
     for (kind, count) in features.arcs.iter_mut().enumerate() {
-        add(count, of_kind(arcs, kind as u8) as u64);
+        add(count, of_kind(arcs, kind as u64) as u64);
     }
     tick(&mut features.kind_0, of_kind(arcs, 0) == arcs.len());
     tick(&mut features.parallel, parallel(arcs));
