@@ -99,7 +99,7 @@ impl Answers {
 pub struct Sizes {
     pub n1: u64,
     pub n2: u64,
-    ghost small: { (n1 ≤ 65) × (n2 ≤ 65) },
+    ghost small: { (n1 ≤ 70) × (n2 ≤ 70) },
 }
 
 // Pairs at random, p1 falling and p2 rising.
