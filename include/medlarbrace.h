@@ -15,10 +15,9 @@
  * while the call runs. Nothing is asked of the contents or of the numbers: any are judged.
  *
  * No call keeps a pointer, allocates, or has any state: calls from several threads may run at once.
- * Bytes of stack a call takes, compiled for x86-64 (bench/stack; as measured with the compiler
- * before docs/PORT.md, not yet again): search 18,528, convert 736,
- * reliability 680, write 576, round 392, open 376, series 360, parallel 344, tally_remove 312,
- * tally_add 280, weights 56, tally_new 32, ageing 8, tally_score 8; memset and memcpy come to that.
+ * Bytes of stack a call takes, compiled for x86-64 (bench/stack): search 18,960, convert 768,
+ * reliability 696, write 432, tally_remove 360, open 344, round 344, parallel 280, series 280,
+ * tally_add 232, weights 56, tally_new 48, ageing 8, tally_score 8; memset and memcpy come to that.
  */
 #ifndef MEDLARBRACE_H
 #define MEDLARBRACE_H
