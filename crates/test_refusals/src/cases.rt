@@ -50,7 +50,7 @@ pub(crate) enum Change {
 
 // The numbers, a study file, two records and a tally. Between the file's nodes and its arcs stand
 // 65 bytes that make a class too large if read as nodes.
-#[derive(Clone, Copy)]
+#[derive(Clone, Copy, PartialEq, Eq)]
 pub(crate) struct Case {
     numbers: [u32; 20],
     file: [u8; 128],

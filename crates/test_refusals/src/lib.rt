@@ -118,7 +118,11 @@ impl Seen {
             base = base.with(*change);
         }
         for (change, refusal) in trial.changes {
-            let answer = base.with(*change).run(call);
+            let case = base.with(*change);
+            let lent = case;
+            let answer = lent.run(call);
+            // What the call only reads is as it was.
+            let answer = if lent == case { answer } else { Answer::Wrong };
             self.note(call, answer, call.due(*refusal));
         }
     }

@@ -245,11 +245,12 @@ pub fn fault_of(t: &[u32]) -> Fault {
 // 2^31 more, modulo 2^32, in each of the last two cells: where there are two, the cells' sum is
 // another, and the same modulo 2^32. Twice is nothing.
 pub fn wrap(t: &mut [u32]) {
-    let cells = cells_mut(t);
-    let n = cells.len();
-    if 2 <= n {
-        for x in &mut cells[n - 2..] {
-            *x = x.wrapping_add(1 << 31);
+    let end = end(t);
+    if HEAD + 2 <= end {
+        for at in [end - 2, end - 1] {
+            if let Some(x) = t.get_mut(at) {
+                *x = x.wrapping_add(1 << 31);
+            }
         }
     }
 }
