@@ -1,7 +1,8 @@
 -- THE REQUESTS OF DOCUMENT 02, closed: one record each, in 02's order, each field under the sentence that it states; in front of a record the words that it
 -- needs beside the page's, behind it an instance. What a request changes of the three demands stands in Demands.antt. Proofs: proofs/ (request1 to
 -- request5; instances failing-ends, taken-back, edge-ages, failing-pipe, standing-score).
-use Rattle.std.specs.Prelude.{◌≡◌, ◌↔◌, ◌⊎◌, Bool, not, ◌||◌, cond, List, [], ◌∷◌, ◌++◌, map, ℕ, zero, suc, ◌+◌, ◌-◌, ◌*◌, ◌%◌, ◌≤◌, ◌<◌, T, eqb, ltb, length, get_or, take}
+use Rattle.std.specs.Prelude.{◌≡◌, ◌↔◌, ◌⊎◌, Bool, not, ◌||◌, cond, List, [], ◌∷◌, ◌++◌, map}
+use Rattle.std.specs.Prelude.{ℕ, zero, suc, ◌+◌, ◌-◌, ◌*◌, ◌%◌, ◌≤◌, ◌<◌, T, eqb, ltb, length, get_or, take}
 use Rattle.limits.specs.Limits.{arc_size, max_rounds, max_class}
 use Rattle.laws.specs.Members.{◌∈◌, keep}
 use Rattle.laws.specs.Reorder.{With, Reordered}
@@ -75,7 +76,8 @@ former_round_lines f t n1 (suc k) r =
     (λ n. refused_line n ∷ []) (λ v. front_line r (search_bytes f r) ∷ former_round_lines f t n1 k (suc r))
 
 abbrev pub former_open_lines : List ℕ → List ℕ → List (List ℕ)
-former_open_lines f v = sizes_line (opened_size1 v) (opened_size2 v) (opened_rounds v) ∷ former_round_lines f (fresh_for v) (opened_size1 v) (opened_rounds v) 0
+former_open_lines f v = sizes_line (opened_size1 v) (opened_size2 v) (opened_rounds v)
+    ∷ former_round_lines f (fresh_for v) (opened_size1 v) (opened_rounds v) 0
 
 abbrev pub former_report_lines : List ℕ → List (List ℕ)
 former_report_lines f = by_answer (former_report_opens f) (λ n. refused_line n ∷ []) (former_open_lines f)
@@ -106,7 +108,8 @@ AtMostNode st r p v =
 pub record Request1 : Type 0 where
   -- "Source and target may now be of class 1 or 2.": a study is accepted where no number but 7 of the former list applies: it opens, its rounds are searched,
   -- and it can be written
-  pub opens : (c : call.OpenCall) → None (except_number 7 (former_open_tests (call.open_file c))) → call.open_result c ≡ success (open_values (call.open_file c))
+  pub opens : (c : call.OpenCall) → None (except_number 7 (former_open_tests (call.open_file c)))
+      → call.open_result c ≡ success (open_values (call.open_file c))
   pub searches : (f : List ℕ) (r : ℕ) → None (except_number 7 (former_round_tests f r)) → (x : List ℕ) × Searched f r x
   pub writes : (g : Given) → None (except_number 7 (former_given_tests g)) → Wrote g (study_bytes g)
   -- "A route's pair takes in its two ends like any other node": they are among the nodes that it visits, over which its pair is the least (`PairOf`); so
@@ -185,7 +188,8 @@ pub record Remaining (n1 n2 : ℕ) (ms : List Move) (left : List (List ℕ)) (t 
   pub sound : Sound t
   -- where the fronts are those of searched rounds, a cell is the number of remaining rounds that direct removal finds joined, and reliability is as near as
   -- ever to the formula on these counts
-  pub counts : (qs : List (List ℕ × ℕ)) → AllSearched qs left → (l1 l2 : ℕ) → l1 ≤ n1 → l2 ≤ n2 → Count (HoldsWith n1 n2 l1 l2) qs (cell t l1 l2)
+  pub counts : (qs : List (List ℕ × ℕ)) → AllSearched qs left → (l1 l2 : ℕ) → l1 ≤ n1 → l2 ≤ n2
+      → Count (HoldsWith n1 n2 l1 l2) qs (cell t l1 l2)
   pub near-rounds : (qs : List (List ℕ × ℕ)) → AllSearched qs left
       → (by-removal : ℕ → ℕ → ℕ) → ((l1 l2 : ℕ) → l1 ≤ n1 → l2 ≤ n2 → Count (HoldsWith n1 n2 l1 l2) qs (by-removal l1 l2))
       → (p1 p2 v k r : ℕ) → Rating t p1 p2 v k r → (k ≡ length qs) × Near n1 n2 p1 p2 by-removal v k r

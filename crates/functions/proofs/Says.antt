@@ -73,18 +73,18 @@ use Rattle.medlarbrace.proofs.files.medlarbrace_write.Symbol as writer-symbol
 use Rattle.medlarbrace.proofs.files.medlarbrace_convert.Reads as converter-reads
 use Rattle.medlarbrace.proofs.files.medlarbrace_convert.Met as converter-met
 use Rattle.medlarbrace.proofs.files.medlarbrace_convert.Symbol as converter-symbol
-use Rattle.functions.specs.Functions.{library, open_function, round_function, search_function, series_function, parallel_function, new_function, add_function, remove_function, score_function, ageing_function, weights_function, reliability_function, write_function, convert_function, Says, KeepsUnless0, NeverReturns, EveryFunction}
+use Rattle.functions.specs.Functions.{c_library, open_function, round_function, search_function, series_function, parallel_function, new_function, add_function, remove_function, score_function, ageing_function, weights_function, reliability_function, write_function, convert_function, Says, KeepsUnless0, NeverReturns, EveryFunction}
 use Rattle.functions.proofs.Linked.{Tables, opening-linked, lookup-linked, search-linked, series-linked, parallel-linked, new-linked, add-linked, remove-linked, score-linked, ageing-linked, weights-linked, reliability-linked, writer-linked, converter-linked}
 
 -- the machine that holds the library
 abbrev machine : World
-machine = holding library
+machine = holding c_library
 
 abbrev code : Callee → Routine
-code = code_of library
+code = code_of c_library
 
 -- which has the table of each crate
-tables : Tables library
+tables : Tables c_library
 tables = record { has-answer = refl; has-front = refl; has-slices = refl; has-record = refl; has-buffer = refl; has-compose = refl; has-orders = refl; has-parts = refl; has-sections = refl; has-study = refl; has-writer = refl; has-convert = refl; has-soundness = refl; has-weights = refl; has-reliability = refl; has-chains = refl; has-members = refl; has-relax = refl; has-labels = refl; has-sweep = refl; has-search = refl; has-cells = refl; has-tally = refl; has-medlarbrace = refl }
 
 -- the machine's value is the number that was returned
@@ -119,7 +119,7 @@ never c n (refused m) blocks other says h others e q = h (ap (λ v. refused (num
 opening-ends : (f header : List ℕ) → AlwaysEnds (open_function f header)
 unfolding tables_of
 opening-ends f header =
-    always (open_function f header) (opening-reads.known machine (λ i. code opening-symbol.name) any_callee (code opening-symbol.name) refl (opening-met.met machine.𝓤 machine.𝓛 machine.𝓜 machine.𝓡 (wired library opening-symbol.code (opening-linked library tables)))) (λ κs. tt) (λ b κs γs. tt)
+    always (open_function f header) (opening-reads.known machine (λ i. code opening-symbol.name) any_callee (code opening-symbol.name) refl (opening-met.met machine.𝓤 machine.𝓛 machine.𝓜 machine.𝓡 (wired c_library opening-symbol.code (opening-linked c_library tables)))) (λ κs. tt) (λ b κs γs. tt)
 
 abbrev opening-left : List ℕ → List ℕ → Outcome → List Block
 opening-left f header a = block u8 f ∷ block u32 (filled a (open_values f) header) ∷ []
@@ -133,7 +133,7 @@ opening-said f header others e =
 lookup-ends : (f : List ℕ) (r start count : ℕ) → AlwaysEnds (round_function f r start count)
 unfolding tables_of
 lookup-ends f r start count =
-    always (round_function f r start count) (lookup-reads.known machine (λ i. code lookup-symbol.name) any_callee (code lookup-symbol.name) refl (lookup-met.met machine.𝓤 machine.𝓛 machine.𝓜 machine.𝓡 (wired library lookup-symbol.code (lookup-linked library tables)))) (λ κs. tt) (λ b κs γs. tt)
+    always (round_function f r start count) (lookup-reads.known machine (λ i. code lookup-symbol.name) any_callee (code lookup-symbol.name) refl (lookup-met.met machine.𝓤 machine.𝓛 machine.𝓜 machine.𝓡 (wired c_library lookup-symbol.code (lookup-linked c_library tables)))) (λ κs. tt) (λ b κs γs. tt)
 
 abbrev lookup-left : List ℕ → ℕ → ℕ → ℕ → Outcome → List Block
 lookup-left f r start count a = block u8 f ∷ block u64 (value_left 0 a start ∷ []) ∷ block u64 (value_left 1 a count ∷ []) ∷ []
@@ -147,7 +147,7 @@ lookup-said f r start count others e =
 search-ends : (f : List ℕ) (r : ℕ) (out : List ℕ) (k : ℕ) → AlwaysEnds (search_function f r out k)
 unfolding tables_of
 search-ends f r out k =
-    always (search_function f r out k) (search-reads.known machine (λ i. code search-symbol.name) any_callee (code search-symbol.name) refl (search-met.met machine.𝓤 machine.𝓛 machine.𝓜 machine.𝓡 (wired library search-symbol.code (search-linked library tables)))) (λ κs. tt) (λ b κs γs. tt)
+    always (search_function f r out k) (search-reads.known machine (λ i. code search-symbol.name) any_callee (code search-symbol.name) refl (search-met.met machine.𝓤 machine.𝓛 machine.𝓜 machine.𝓡 (wired c_library search-symbol.code (search-linked c_library tables)))) (λ κs. tt) (λ b κs γs. tt)
 
 abbrev pub search-left : List ℕ → ℕ → List ℕ → Outcome → List Block
 search-left f k s a = block u8 f ∷ block u8 s ∷ block u64 (value_left 0 a k ∷ []) ∷ []
@@ -161,7 +161,7 @@ search-said f r out k others e =
 series-ends : (y z out : List ℕ) (k : ℕ) → AlwaysEnds (series_function y z out k)
 unfolding tables_of
 series-ends y z out k =
-    always (series_function y z out k) (series-reads.known machine (λ i. code series-symbol.name) any_callee (code series-symbol.name) refl (series-met.met machine.𝓤 machine.𝓛 machine.𝓜 machine.𝓡 (wired library series-symbol.code (series-linked library tables)))) (λ κs. tt) (λ b κs γs. tt)
+    always (series_function y z out k) (series-reads.known machine (λ i. code series-symbol.name) any_callee (code series-symbol.name) refl (series-met.met machine.𝓤 machine.𝓛 machine.𝓜 machine.𝓡 (wired c_library series-symbol.code (series-linked c_library tables)))) (λ κs. tt) (λ b κs γs. tt)
 
 abbrev series-left : List ℕ → List ℕ → ℕ → List ℕ → Outcome → List Block
 series-left y z k s a = block u8 y ∷ block u8 z ∷ block u8 s ∷ block u64 (value_left 0 a k ∷ []) ∷ []
@@ -175,7 +175,7 @@ series-said y z out k others e =
 parallel-ends : (y z out : List ℕ) (k : ℕ) → AlwaysEnds (parallel_function y z out k)
 unfolding tables_of
 parallel-ends y z out k =
-    always (parallel_function y z out k) (parallel-reads.known machine (λ i. code parallel-symbol.name) any_callee (code parallel-symbol.name) refl (parallel-met.met machine.𝓤 machine.𝓛 machine.𝓜 machine.𝓡 (wired library parallel-symbol.code (parallel-linked library tables)))) (λ κs. tt) (λ b κs γs. tt)
+    always (parallel_function y z out k) (parallel-reads.known machine (λ i. code parallel-symbol.name) any_callee (code parallel-symbol.name) refl (parallel-met.met machine.𝓤 machine.𝓛 machine.𝓜 machine.𝓡 (wired c_library parallel-symbol.code (parallel-linked c_library tables)))) (λ κs. tt) (λ b κs γs. tt)
 
 parallel-said : (y z out : List ℕ) (k : ℕ) → let a = parallel_answer y z (length out) in Says (parallel_function y z out k) a (series-left y z k (filled a (parallel_bytes y z) out) a)
 parallel-said y z out k others e =
@@ -186,7 +186,7 @@ parallel-said y z out k others e =
 new-ends : (n1 n2 : ℕ) (t : List ℕ) → AlwaysEnds (new_function n1 n2 t)
 unfolding tables_of
 new-ends n1 n2 t =
-    always (new_function n1 n2 t) (new-reads.known machine (λ i. code new-symbol.name) any_callee (code new-symbol.name) refl (new-met.met machine.𝓤 machine.𝓛 machine.𝓜 machine.𝓡 (wired library new-symbol.code (new-linked library tables)))) (λ κs. tt) (λ b κs γs. tt)
+    always (new_function n1 n2 t) (new-reads.known machine (λ i. code new-symbol.name) any_callee (code new-symbol.name) refl (new-met.met machine.𝓤 machine.𝓛 machine.𝓜 machine.𝓡 (wired c_library new-symbol.code (new-linked c_library tables)))) (λ κs. tt) (λ b κs γs. tt)
 
 abbrev new-left : List ℕ → Outcome → List Block
 new-left s a = block u32 s ∷ []
@@ -200,7 +200,7 @@ new-said n1 n2 t others e =
 add-ends : (x t : List ℕ) → AlwaysEnds (add_function x t)
 unfolding tables_of
 add-ends x t =
-    always (add_function x t) (add_reads.known machine (λ i. code add-symbol.name) any_callee (code add-symbol.name) refl (add-met.met machine.𝓤 machine.𝓛 machine.𝓜 machine.𝓡 (wired library add-symbol.code (add-linked library tables)))) (λ κs. tt) (λ b κs γs. tt)
+    always (add_function x t) (add_reads.known machine (λ i. code add-symbol.name) any_callee (code add-symbol.name) refl (add-met.met machine.𝓤 machine.𝓛 machine.𝓜 machine.𝓡 (wired c_library add-symbol.code (add-linked c_library tables)))) (λ κs. tt) (λ b κs γs. tt)
 
 abbrev add_left : List ℕ → List ℕ → Outcome → List Block
 add_left x s a = block u8 x ∷ block u32 s ∷ []
@@ -214,7 +214,7 @@ add-said x t others e =
 remove-ends : (x t : List ℕ) → AlwaysEnds (remove_function x t)
 unfolding tables_of
 remove-ends x t =
-    always (remove_function x t) (remove-reads.known machine (λ i. code remove-symbol.name) any_callee (code remove-symbol.name) refl (remove-met.met machine.𝓤 machine.𝓛 machine.𝓜 machine.𝓡 (wired library remove-symbol.code (remove-linked library tables)))) (λ κs. tt) (λ b κs γs. tt)
+    always (remove_function x t) (remove-reads.known machine (λ i. code remove-symbol.name) any_callee (code remove-symbol.name) refl (remove-met.met machine.𝓤 machine.𝓛 machine.𝓜 machine.𝓡 (wired c_library remove-symbol.code (remove-linked c_library tables)))) (λ κs. tt) (λ b κs γs. tt)
 
 remove-said : (x t : List ℕ) → let a = remove_answer x t in Says (remove_function x t) a (add_left x (filled a (removed x t) t) a)
 remove-said x t others e =
@@ -225,7 +225,7 @@ remove-said x t others e =
 score-ends : (t : List ℕ) (s : ℕ) → AlwaysEnds (score_function t s)
 unfolding tables_of
 score-ends t s =
-    always (score_function t s) (score-reads.known machine (λ i. code score-symbol.name) any_callee (code score-symbol.name) refl (score-met.met machine.𝓤 machine.𝓛 machine.𝓜 machine.𝓡 (wired library score-symbol.code (score-linked library tables)))) (λ κs. tt) (λ b κs γs. tt)
+    always (score_function t s) (score-reads.known machine (λ i. code score-symbol.name) any_callee (code score-symbol.name) refl (score-met.met machine.𝓤 machine.𝓛 machine.𝓜 machine.𝓡 (wired c_library score-symbol.code (score-linked c_library tables)))) (λ κs. tt) (λ b κs γs. tt)
 
 abbrev score-left : List ℕ → ℕ → Outcome → List Block
 score-left t s a = block u32 t ∷ block u32 (value_left 0 a s ∷ []) ∷ []
@@ -239,7 +239,7 @@ score-said t s others e =
 ageing-ends : (y chance : ℕ) → AlwaysEnds (ageing_function y chance)
 unfolding tables_of
 ageing-ends y chance =
-    always (ageing_function y chance) (ageing-reads.known machine (λ i. code ageing-symbol.name) any_callee (code ageing-symbol.name) refl (ageing-met.met machine.𝓤 machine.𝓛 machine.𝓜 machine.𝓡 (wired library ageing-symbol.code (ageing-linked library tables)))) (λ κs. tt) (λ b κs γs. tt)
+    always (ageing_function y chance) (ageing-reads.known machine (λ i. code ageing-symbol.name) any_callee (code ageing-symbol.name) refl (ageing-met.met machine.𝓤 machine.𝓛 machine.𝓜 machine.𝓡 (wired c_library ageing-symbol.code (ageing-linked c_library tables)))) (λ κs. tt) (λ b κs γs. tt)
 
 abbrev ageing-left : ℕ → ℕ → Outcome → List Block
 ageing-left y chance a = block u32 (value_left 0 a chance ∷ []) ∷ []
@@ -253,7 +253,7 @@ ageing-said y chance others e =
 weights-ends : (n p : ℕ) (out : List ℕ) → AlwaysEnds (weights_function n p out)
 unfolding tables_of
 weights-ends n p out =
-    always (weights_function n p out) (weights-reads.known machine (λ i. code weights-symbol.name) any_callee (code weights-symbol.name) refl (weights-met.met machine.𝓤 machine.𝓛 machine.𝓜 machine.𝓡 (wired library weights-symbol.code (weights-linked library tables)))) (λ κs. tt) (λ b κs γs. tt)
+    always (weights_function n p out) (weights-reads.known machine (λ i. code weights-symbol.name) any_callee (code weights-symbol.name) refl (weights-met.met machine.𝓤 machine.𝓛 machine.𝓜 machine.𝓡 (wired c_library weights-symbol.code (weights-linked c_library tables)))) (λ κs. tt) (λ b κs γs. tt)
 
 weights-said : (n p : ℕ) (out : List ℕ) → let a = weights_answer n p (length out) in Says (weights_function n p out) a (new-left (filled a (weights p n) out) a)
 weights-said n p out others e =
@@ -264,7 +264,7 @@ weights-said n p out others e =
 reliability-ends : (t : List ℕ) (p1 p2 s m r : ℕ) → AlwaysEnds (reliability_function t p1 p2 s m r)
 unfolding tables_of
 reliability-ends t p1 p2 s m r =
-    always (reliability_function t p1 p2 s m r) (reliability-reads.known machine (λ i. code reliability-symbol.name) any_callee (code reliability-symbol.name) refl (reliability-met.met machine.𝓤 machine.𝓛 machine.𝓜 machine.𝓡 (wired library reliability-symbol.code (reliability-linked library tables)))) (λ κs. tt) (λ b κs γs. tt)
+    always (reliability_function t p1 p2 s m r) (reliability-reads.known machine (λ i. code reliability-symbol.name) any_callee (code reliability-symbol.name) refl (reliability-met.met machine.𝓤 machine.𝓛 machine.𝓜 machine.𝓡 (wired c_library reliability-symbol.code (reliability-linked c_library tables)))) (λ κs. tt) (λ b κs γs. tt)
 
 abbrev reliability-left : List ℕ → ℕ → ℕ → ℕ → ℕ → ℕ → Outcome → List Block
 reliability-left t p1 p2 s m r a = block u32 t ∷ block u64 (value_left 0 a s ∷ []) ∷ block u64 (value_left 1 a m ∷ []) ∷ block u64 (value_left 2 a r ∷ []) ∷ []
@@ -278,7 +278,7 @@ reliability-said t p1 p2 s m r others e =
 writer-ends : (g : Given) (out : List ℕ) (k : ℕ) → AlwaysEnds (write_function g out k)
 unfolding tables_of
 writer-ends g out k =
-    always (write_function g out k) (writer-reads.known machine (λ i. code writer-symbol.name) any_callee (code writer-symbol.name) refl (writer-met.met machine.𝓤 machine.𝓛 machine.𝓜 machine.𝓡 (wired library writer-symbol.code (writer-linked library tables)))) (λ κs. tt) (λ b κs γs. tt)
+    always (write_function g out k) (writer-reads.known machine (λ i. code writer-symbol.name) any_callee (code writer-symbol.name) refl (writer-met.met machine.𝓤 machine.𝓛 machine.𝓜 machine.𝓡 (wired c_library writer-symbol.code (writer-linked c_library tables)))) (λ κs. tt) (λ b κs γs. tt)
 
 abbrev writer-left : Given → ℕ → List ℕ → Outcome → List Block
 writer-left g k s a = block u8 g.nodes ∷ block u8 g.arcs ∷ block u8 g.rounds ∷ block u8 s ∷ block u64 (value_left 0 a k ∷ []) ∷ []
@@ -292,7 +292,7 @@ writer-said g out k others e =
 converter-ends : (f out : List ℕ) (k : ℕ) → AlwaysEnds (convert_function f out k)
 unfolding tables_of
 converter-ends f out k =
-    always (convert_function f out k) (converter-reads.known machine (λ i. code converter-symbol.name) any_callee (code converter-symbol.name) refl (converter-met.met machine.𝓤 machine.𝓛 machine.𝓜 machine.𝓡 (wired library converter-symbol.code (converter-linked library tables)))) (λ κs. tt) (λ b κs γs. tt)
+    always (convert_function f out k) (converter-reads.known machine (λ i. code converter-symbol.name) any_callee (code converter-symbol.name) refl (converter-met.met machine.𝓤 machine.𝓛 machine.𝓜 machine.𝓡 (wired c_library converter-symbol.code (converter-linked c_library tables)))) (λ κs. tt) (λ b κs γs. tt)
 
 converter-said : (f out : List ℕ) (k : ℕ) → let a = convert_answer f (length out) in Says (convert_function f out k) a (search-left f k (filled a (convert_bytes f) out) a)
 converter-said f out k others e =

@@ -82,8 +82,8 @@ use Rattle.tally.proofs.Linked as tally-link
 use Rattle.medlarbrace.proofs.Linked as medlarbrace-link
 
 -- THE LIBRARY: the crates of the functions and those below them, each with the table of its functions (proofs/Linked.antt there)
-abbrev pub library : Library
-library =
+abbrev pub c_library : Library
+c_library =
     (codes "answer", answer-link.table) ∷ (codes "front", front-link.table) ∷ (codes "slices", slices-link.table) ∷
     (codes "record", record-link.table) ∷ (codes "buffer", buffer-link.table) ∷
     (codes "compose", compose-link.table) ∷ (codes "orders", orders-link.table) ∷ (codes "parts", parts-link.table) ∷
@@ -100,71 +100,71 @@ library =
 abbrev pub open_function : List ℕ → List ℕ → Run
 open_function f header =
     run 2 (shared u8 0 tt f ∷ mutable u32 1 tt header ∷ [])
-    (value opening-kinds.r) opening-reads.Asked opening-reads.Learnt (code_of library opening-symbol.name)
+    (value opening-kinds.r) opening-reads.Asked opening-reads.Learnt (code_of c_library opening-symbol.name)
 
 -- medlarbrace_round(file, round, start, count)
 abbrev pub round_function : List ℕ → ℕ → ℕ → ℕ → Run
 round_function f r start count =
     run 3 (shared u8 0 tt f ∷ number w64 r ∷ place u64 1 tt start ∷ place u64 2 tt count ∷ [])
-    (value lookup-kinds.r) lookup-reads.Asked lookup-reads.Learnt (code_of library lookup-symbol.name)
+    (value lookup-kinds.r) lookup-reads.Asked lookup-reads.Learnt (code_of c_library lookup-symbol.name)
 
 -- medlarbrace_search(file, round, out, written)
 abbrev pub search_function : List ℕ → ℕ → List ℕ → ℕ → Run
 search_function f r out k =
     run 3 (shared u8 0 tt f ∷ number w64 r ∷ mutable u8 1 tt out ∷ place u64 2 tt k ∷ [])
-    (value search-kinds.r) search-reads.Asked search-reads.Learnt (code_of library search-symbol.name)
+    (value search-kinds.r) search-reads.Asked search-reads.Learnt (code_of c_library search-symbol.name)
 
 -- medlarbrace_series(left, right, out, written)
 abbrev pub series_function : List ℕ → List ℕ → List ℕ → ℕ → Run
 series_function y z out k =
     run 4 (shared u8 0 tt y ∷ shared u8 1 tt z ∷ mutable u8 2 tt out ∷ place u64 3 tt k ∷ [])
-    (value series-kinds.r) series-reads.Asked series-reads.Learnt (code_of library series-symbol.name)
+    (value series-kinds.r) series-reads.Asked series-reads.Learnt (code_of c_library series-symbol.name)
 
 -- medlarbrace_parallel(left, right, out, written)
 abbrev pub parallel_function : List ℕ → List ℕ → List ℕ → ℕ → Run
 parallel_function y z out k =
     run 4 (shared u8 0 tt y ∷ shared u8 1 tt z ∷ mutable u8 2 tt out ∷ place u64 3 tt k ∷ [])
-    (value parallel-kinds.r) parallel-reads.Asked parallel-reads.Learnt (code_of library parallel-symbol.name)
+    (value parallel-kinds.r) parallel-reads.Asked parallel-reads.Learnt (code_of c_library parallel-symbol.name)
 
 -- medlarbrace_tally_new(n1, n2, tally)
 abbrev pub new_function : ℕ → ℕ → List ℕ → Run
 new_function n1 n2 t =
     run 1 (number w32 n1 ∷ number w32 n2 ∷ mutable u32 0 tt t ∷ [])
-    (value new-kinds.r) new-reads.Asked new-reads.Learnt (code_of library new-symbol.name)
+    (value new-kinds.r) new-reads.Asked new-reads.Learnt (code_of c_library new-symbol.name)
 
 -- medlarbrace_tally_add(record, tally)
 abbrev pub add_function : List ℕ → List ℕ → Run
-add_function x t = run 2 (shared u8 0 tt x ∷ mutable u32 1 tt t ∷ []) (value add-kinds.r) add_reads.Asked add_reads.Learnt (code_of library add-symbol.name)
+add_function x t = run 2 (shared u8 0 tt x ∷ mutable u32 1 tt t ∷ []) (value add-kinds.r) add_reads.Asked add_reads.Learnt (code_of c_library add-symbol.name)
 
 -- medlarbrace_tally_remove(record, tally)
 abbrev pub remove_function : List ℕ → List ℕ → Run
 remove_function x t =
     run 2 (shared u8 0 tt x ∷ mutable u32 1 tt t ∷ [])
-    (value remove-kinds.r) remove-reads.Asked remove-reads.Learnt (code_of library remove-symbol.name)
+    (value remove-kinds.r) remove-reads.Asked remove-reads.Learnt (code_of c_library remove-symbol.name)
 
 -- medlarbrace_tally_score(tally, score)
 abbrev pub score_function : List ℕ → ℕ → Run
 score_function t s =
     run 2 (shared u32 0 tt t ∷ place u32 1 tt s ∷ [])
-    (value score-kinds.r) score-reads.Asked score-reads.Learnt (code_of library score-symbol.name)
+    (value score-kinds.r) score-reads.Asked score-reads.Learnt (code_of c_library score-symbol.name)
 
 -- medlarbrace_ageing(age, chance)
 abbrev pub ageing_function : ℕ → ℕ → Run
 ageing_function y chance =
     run 1 (number w64 y ∷ place u32 0 tt chance ∷ [])
-    (value ageing-kinds.r) ageing-reads.Asked ageing-reads.Learnt (code_of library ageing-symbol.name)
+    (value ageing-kinds.r) ageing-reads.Asked ageing-reads.Learnt (code_of c_library ageing-symbol.name)
 
 -- medlarbrace_weights(n, chance, weights)
 abbrev pub weights_function : ℕ → ℕ → List ℕ → Run
 weights_function n p out =
     run 1 (number w32 n ∷ number w32 p ∷ mutable u32 0 tt out ∷ [])
-    (value weights-kinds.r) weights-reads.Asked weights-reads.Learnt (code_of library weights-symbol.name)
+    (value weights-kinds.r) weights-reads.Asked weights-reads.Learnt (code_of c_library weights-symbol.name)
 
 -- medlarbrace_reliability(tally, chance1, chance2, sum, rounds, reliability)
 abbrev pub reliability_function : List ℕ → ℕ → ℕ → ℕ → ℕ → ℕ → Run
 reliability_function t p1 p2 s m r =
     run 4 (shared u32 0 tt t ∷ number w32 p1 ∷ number w32 p2 ∷ place u64 1 tt s ∷ place u64 2 tt m ∷ place u64 3 tt r ∷ [])
-    (value reliability-kinds.r) reliability-reads.Asked reliability-reads.Learnt (code_of library reliability-symbol.name)
+    (value reliability-kinds.r) reliability-reads.Asked reliability-reads.Learnt (code_of c_library reliability-symbol.name)
 
 -- medlarbrace_write(nodes, arcs, rounds, source, target, total, out, written)
 abbrev pub write_function : Given → List ℕ → ℕ → Run
@@ -172,13 +172,13 @@ write_function g out k =
     run 5
     (shared u8 0 tt g.nodes ∷ shared u8 1 tt g.arcs ∷ shared u8 2 tt g.rounds
     ∷ number w64 g.source ∷ number w64 g.target ∷ number w64 g.total ∷ mutable u8 3 tt out ∷ place u64 4 tt k ∷ [])
-    (value writer-kinds.r) writer-reads.Asked writer-reads.Learnt (code_of library writer-symbol.name)
+    (value writer-kinds.r) writer-reads.Asked writer-reads.Learnt (code_of c_library writer-symbol.name)
 
 -- medlarbrace_convert(old, out, written)
 abbrev pub convert_function : List ℕ → List ℕ → ℕ → Run
 convert_function f out k =
     run 3 (shared u8 0 tt f ∷ mutable u8 1 tt out ∷ place u64 2 tt k ∷ [])
-    (value converter-kinds.r) converter-reads.Asked converter-reads.Learnt (code_of library converter-symbol.name)
+    (value converter-kinds.r) converter-reads.Asked converter-reads.Learnt (code_of c_library converter-symbol.name)
 
 -- ---- WHAT IS SAID OF A RUN
 -- it returns 0 or the number of this answer's refusal (`code`), and what it was lent then holds these, a block each
