@@ -14,5 +14,6 @@ pub record Call (n : ℕ) (ps : List (ParamKind n)) (r : ResultKind n) (promise 
   pub kept : promise lifetimes args result (at_exit (ended_of n ps r) lifetimes args last)
 
 -- its parameters when it returned: by the kit's `at_exit` a slice that it may only read (`&`) is as it was
-abbrev pub after : {n : ℕ} {ps : List (ParamKind n)} {r : ResultKind n} {promise : Out n ps r} → (c : Call n ps r promise) → AtExit (ended_of n ps r) c.lifetimes
+abbrev pub after : {n : ℕ} {ps : List (ParamKind n)} {r : ResultKind n} {promise : Out n ps r} → (c : Call n ps r promise)
+    → AtExit (ended_of n ps r) c.lifetimes
 after {n} {ps} {r} c = at_exit (ended_of n ps r) c.lifetimes c.args c.last
