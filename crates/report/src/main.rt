@@ -18,63 +18,51 @@ use output::Sent;
 use soundness::LARGEST;
 use std::io::Read;
 
-// A line of the report, and whether another follows it. No Option: there is a line in both cases, and
-// the loop's test is the flag.
-#[derive(Clone, Copy)]
-struct Row {
-    line: Line,
-    more: bool,
-}
-
 // The line of a front, which is added to the tally.
-fn add_front(round: usize, record: &[u8], tally: &mut [u32]) -> Line
+fn add_front(round: usize, record: &[u8], tally: &mut [u32], line: &mut Line)
     requires { T (is_record «record».now) }
-    ensures line { result.bytes ≡ front_line round «record».now }
+    ensures line { line.new.bytes ≡ front_line round «record».now }
     ensures tally { tally.new ≡ add_out «record».now tally.old }
 {
     let _ = tally::add(record, tally);
-    lines::front_line(round as u64, record)
+    lines::front_line(round as u64, record, line);
 }
 
-// The line of a round.
-fn round_line(file: &[u8], round: usize, tally: &mut [u32]) -> Row
-    ensures told { (result.line.bytes ≡ round_line file.now round) × (result.more ≡ succeeds (round_answer file.now round)) }
+// The line of a round, and whether another follows it.
+fn round_line(file: &[u8], round: usize, tally: &mut [u32], line: &mut Line) -> bool
+    ensures told { (line.new.bytes ≡ round_line file.now round) × (result ≡ succeeds (round_answer file.now round)) }
     ensures tally { tally.new ≡ round_tally file.now round tally.old }
 {
     let mut record = [0; LONGEST];
     match search::search(file, round, &mut record) {
-        Err(r) => Row {
-            line: lines::refused_line(u32::from(r) as u64),
-            more: false,
-        },
-        Ok(n) => Row {
-            line: add_front(round, &record[..n], tally),
-            more: true,
-        },
+        Err(r) => {
+            lines::refused_line(u32::from(r) as u64, line);
+            false
+        }
+        Ok(n) => {
+            add_front(round, &record[..n], tally, line);
+            true
+        }
     }
 }
 
-// Line i of an open study: its sizes, then its rounds, then its counts.
-fn study_line(file: &[u8], h: Header, i: usize, tally: &mut [u32]) -> Row
+// Line i of an open study, its sizes, then its rounds, then its counts, and whether another follows it.
+fn study_line(file: &[u8], h: Header, i: usize, tally: &mut [u32], line: &mut Line) -> bool
     requires { (report_opens file.now ≡ success (header_values h)) × Due file.now (header_values h) i tally.old }
-    ensures line { result.line.bytes ≡ line_at file.now i }
-    ensures next { NextLine file.now (header_values h) i result.more tally.new }
+    ensures line { line.new.bytes ≡ line_at file.now i }
+    ensures next { NextLine file.now (header_values h) i result tally.new }
 {
     if i == 0 {
-        return Row {
-            line: lines::sizes_line(h.n1 as u64, h.n2 as u64, h.rounds as u64),
-            more: true,
-        };
+        lines::sizes_line(h.n1 as u64, h.n2 as u64, h.rounds as u64, line);
+        return true;
     }
     let round = i - 1;
     if round < h.rounds {
-        return round_line(file, round, tally);
+        return round_line(file, round, tally, line);
     }
     let l1 = round - h.rounds;
-    Row {
-        line: lines::count_line(l1, tally),
-        more: l1 < h.n1,
-    }
+    lines::count_line(l1, tally, line);
+    l1 < h.n1
 }
 
 // The report on an open study, line after line up to the first write that fails.
@@ -83,14 +71,15 @@ fn report_study(rt: &impl Print, file: &[u8], h: Header, begun: Sent, tally: &mu
     requires begun { (begun.lines ≡ 0) × (begun.whole ≡ true) }
     ensures { SentOf (report_lines file.now) result.lines result.whole }
 {
+    let mut line = Line::new();
     let mut sent = begun;
     let mut more = true;
     // A while: a search tells only when it is made whether another line follows.
     while more {
         let i = sent.lines();
-        let row = study_line(file, h, i, tally);
-        sent = output::write_line(rt, file, sent, row.line.as_bytes());
-        more = row.more & sent.whole();
+        let follows = study_line(file, h, i, tally, &mut line);
+        sent = output::write_line(rt, file, sent, line.as_bytes());
+        more = follows & sent.whole();
     }
     sent
 }
@@ -114,7 +103,8 @@ fn report_refusal(rt: &impl Print, file: &[u8], refusal: Refusal, begun: Sent) -
     requires begun { (begun.lines ≡ 0) × (begun.whole ≡ true) }
     ensures { SentOf (report_lines file.now) result.lines result.whole }
 {
-    let line = lines::refused_line(u32::from(refusal) as u64);
+    let mut line = Line::new();
+    lines::refused_line(u32::from(refusal) as u64, &mut line);
     output::write_line(rt, file, begun, line.as_bytes())
 }
 

@@ -16,7 +16,7 @@ write_line-requires g c =
     let z = c.requires.begun.0 in (
       c.requires.begun.1,
       omega (arith, z, ap length only),
-      c.as_bytes.ensures.value ∙ c.deref.ensures.0 ∙ c.refused_line-line.ensures ∙ ap refused_line c.from.ensures ∙ sym (ap (λ l. get_or l 0 []) only) ∙ ap (line_at c.args.file.now) (sym z),
+      c.as_bytes.ensures.value ∙ c.deref.ensures.0 ∙ c.refused_line.ensures ∙ ap refused_line c.from.ensures ∙ sym (ap (λ l. get_or l 0 []) only) ∙ ap (line_at c.args.file.now) (sym z),
     )
 
 pub returns : goal.returns
