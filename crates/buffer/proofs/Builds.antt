@@ -6,7 +6,7 @@ use mathlib.Core.List.Memᴰ
 use mathlib.Core.List.{List, [], ◌∷◌, ◌++◌, append_assoc}
 use Prim.Native.Nat.{ℕ, suc, ◌+◌, ◌-◌, ◌*◌, ◌≤◌, ◌<◌}
 use native.Mathlib.Omega.{arith}
-use lib.ListN.{length, get_or, take, drop, length-append, take-append-drop}
+use lib.ListN.{length, get_or, take, drop, length-append, length-set, take-append-drop}
 use lib.Seq.{take-append_seam, length-take-le, take-suc, take_all, get_or-take}
 use Rattle.limits.specs.Limits.{max_class}
 use Rattle.laws.specs.Tests.{T_true, order}
@@ -53,6 +53,9 @@ module _ {n1 n2 : ℕ} {l : List Pair} {b : List ℕ} (g : Begins n1 n2 l b) whe
             ∙ set-two front-part (get_or old n 0) (get_or old (n + 1) 0) (drop (n + 2) old) p.p1.0 p.p2.0 (3 + 2 * at) (omega (arith, flat-length (take at l), length-take-le at l h))
             ∙ ap₂ (λ k r. n1 ∷ n2 ∷ k ∷ r) size (sym (append_assoc (flat (take at l)) (p.p1.0 ∷ p.p2.0 ∷ []) (drop (n + 2) old)) ∙ ap (λ r. r ++ drop (n + 2) old) (sym (flat_append (take at l) (p ∷ []))));
       }
+
+pub stored-long : (b : List ℕ) (at : ℕ) (p : Pair) → length (stored b at p) ≡ length b
+stored-long b at p = simp length-set
 
 -- the last pair of a list, and those before it
 snoc_of : (l : List Pair) (d : Pair) → 0 < length l → take (length l - 1) l ++ (get_or l (length l - 1) d ∷ []) ≡ l

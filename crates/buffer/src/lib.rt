@@ -35,7 +35,8 @@ impl FrontRecord {
     // Puts one more pair into the record, which is then the front of its pairs and p.
     pub fn put(&mut self, p: Pair)
         requires { Puttable (record_in self.old.bytes) p }
-        ensures { let r = record_in self.old.bytes in
+        ensures long { length self.new.bytes ≡ longest }
+        ensures front { let r = record_in self.old.bytes in
             record_in self.new.bytes ≡ front_bytes (record_size1 r) (record_size2 r) (listed r ++ p ∷ []) }
     {
         let k = self.bytes[2];

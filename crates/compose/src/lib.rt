@@ -88,16 +88,18 @@ fn merge_parallel(left: &[u8], right: &[u8]) -> FrontRecord
     let l = record::read_head(left);
     let pairs = l.k + record::read_head(right).k;
     let mut joined = FrontRecord::empty(l.n1, l.n2);
-    // the pairs that were taken of the left record
     let mut i: u8 = 0;
+    let mut j: u8 = 0;
+    // Both places are kept: j as n - i would be reckoned anew, and its pair read anew, in each turn.
     for n in 0..pairs {
         let p = record::pair_at(left, i);
-        let q = record::pair_at(right, n - i);
+        let q = record::pair_at(right, j);
         if p.p1.at_least(q.p1) {
             joined.put(p);
             i += 1;
         } else {
             joined.put(q);
+            j += 1;
         }
     }
     joined

@@ -18,27 +18,25 @@ loop-n-init c =
 pub put-requires : goal.put-requires
 put-requires c =
     let l = c.loop-n in
-    left-puttable l.invariant.0 (omega arith) (pair_is c.args.left.now c.requires.left_is l.i c.pair_at-p.ensures) (pair_is c.args.right.now c.requires.right_is (l.n - l.i) c.pair_at-q.ensures) (leb-true _ _ (sym c.at_least.ensures ∙ c.if-at_least.true))
+    left-puttable l.invariant.0 (omega arith) (pair_is c.args.left.now c.requires.left_is l.i c.pair_at-p.ensures) (pair_is c.args.right.now c.requires.right_is l.j c.pair_at-q.ensures) (leb-true _ _ (sym c.at_least.ensures ∙ c.if-at_least.true))
 
 pub put-requires-else-at_least : goal.put-requires-else-at_least
 put-requires-else-at_least c =
     let l = c.loop-n in
-    right-puttable l.invariant.0 (omega arith) (pair_is c.args.left.now c.requires.left_is l.i c.pair_at-p.ensures) (pair_is c.args.right.now c.requires.right_is (l.n - l.i) c.pair_at-q.ensures) (leb-false _ _ (sym c.at_least.ensures ∙ c.if-at_least.false))
+    right-puttable l.invariant.0 (omega arith) (pair_is c.args.left.now c.requires.left_is l.i c.pair_at-p.ensures) (pair_is c.args.right.now c.requires.right_is l.j c.pair_at-q.ensures) (leb-false _ _ (sym c.at_least.ensures ∙ c.if-at_least.false))
 
 pub loop-n-preserved : goal.loop-n-preserved
 loop-n-preserved c =
     let l = c.loop-n in
     let p-is = pair_is c.args.left.now c.requires.left_is l.i c.pair_at-p.ensures in
-    let q-is = pair_is c.args.right.now c.requires.right_is (l.n - l.i) c.pair_at-q.ensures in
+    let q-is = pair_is c.args.right.now c.requires.right_is l.j c.pair_at-q.ensures in
     elim c.if-at_least.branch [
       | then-at_least w ↦
-          let e : l.n + 1 - (l.i + 1) ≡ l.n - l.i = omega arith in
-          rw (w.joined-is, w.i-is, e)
-          (parallel-left l.invariant.0 (omega arith) p-is q-is (leb-true _ _ (sym c.at_least.ensures ∙ w.if-at_least.true)) w.put.ensures, omega arith, l.invariant.2)
+          rw (w.joined-is, w.i-is, w.j-is)
+          (parallel-left l.invariant.0 (omega arith) p-is q-is (leb-true _ _ (sym c.at_least.ensures ∙ w.if-at_least.true)) w.put.ensures.front, omega arith, l.invariant.2)
       | else-at_least w ↦
-          let e : l.n + 1 - l.i ≡ l.n - l.i + 1 = omega arith in
-          rw (w.joined-is, w.i-is, e)
-          (parallel-right l.invariant.0 (omega arith) p-is q-is (leb-false _ _ (sym c.at_least.ensures ∙ w.if-at_least.false)) w.put-else-at_least.ensures, omega arith, l.invariant.2)
+          rw (w.joined-is, w.i-is, w.j-is)
+          (parallel-right l.invariant.0 (omega arith) p-is q-is (leb-false _ _ (sym c.at_least.ensures ∙ w.if-at_least.false)) w.put-else-at_least.ensures.front, omega arith, l.invariant.2)
     ]
 
 pub returns : goal.returns

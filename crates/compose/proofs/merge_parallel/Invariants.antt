@@ -8,4 +8,4 @@ use Rattle.compose.proofs.Merges.{either, Merging}
 use Rattle.compose.proofs.merge_parallel.Given as goal
 
 abbrev pub invariant-loop-n : goal.invariant-loop-n
-invariant-loop-n l = Merging either max (record_size1 l.left) (record_size2 l.left) (listed l.left) (listed l.right) l.i (l.n - l.i) (record_in l.joined.bytes) × (l.i ≤ l.n) × (l.pairs ≡ length (listed l.left) + length (listed l.right))
+invariant-loop-n l = Merging either max (record_size1 l.left) (record_size2 l.left) (listed l.left) (listed l.right) l.i l.j (record_in l.joined.bytes) × (l.i + l.j ≡ l.n) × (l.pairs ≡ length (listed l.left) + length (listed l.right))

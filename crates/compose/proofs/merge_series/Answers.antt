@@ -28,14 +28,14 @@ loop-i-preserved-then-at_least c =
     let l = c.loop-i in
     let p-is = pair_is c.args.left.now c.requires.left_is l.i c.pair_at-p.ensures in
     let q-is = pair_is c.args.right.now c.requires.right_is l.j c.pair_at-q.ensures in
-    (series-left l.invariant.0 (omega arith) (omega arith) p-is q-is c.min.ensures c.put.ensures (leb-true _ _ (sym c.at_least.ensures ∙ c.if-at_least.true)), l.invariant.1, l.invariant.2, l.invariant.3, l.invariant.4)
+    (series-left l.invariant.0 (omega arith) (omega arith) p-is q-is c.min.ensures c.put.ensures.front (leb-true _ _ (sym c.at_least.ensures ∙ c.if-at_least.true)), l.invariant.1, l.invariant.2, l.invariant.3, l.invariant.4)
 
 pub loop-i-preserved : goal.loop-i-preserved
 loop-i-preserved c =
     let l = c.loop-i in
     let p-is = pair_is c.args.left.now c.requires.left_is l.i c.pair_at-p.ensures in
     let q-is = pair_is c.args.right.now c.requires.right_is l.j c.pair_at-q.ensures in
-    (series-right l.invariant.0 (omega arith) (omega arith) p-is q-is c.min.ensures c.put.ensures (le_of_lt (leb-false _ _ (sym c.at_least.ensures ∙ c.if-at_least.false))), l.invariant.1, l.invariant.2, l.invariant.3, l.invariant.4)
+    (series-right l.invariant.0 (omega arith) (omega arith) p-is q-is c.min.ensures c.put.ensures.front (le_of_lt (leb-false _ _ (sym c.at_least.ensures ∙ c.if-at_least.false))), l.invariant.1, l.invariant.2, l.invariant.3, l.invariant.4)
 
 pub returns-after-loop-i : goal.returns-after-loop-i
 returns-after-loop-i c = series-done c.loop-i.invariant.0 (inl (omega arith))
