@@ -50,7 +50,9 @@ cell_sum n1 n2 c = sum_to (n1 + 1) (λ l1. sum_to (width n2) (c l1))
 -- ---- NUMBERS 21 AND 22
 -- "tally slice under 3 words, or sizes at most 64 and cells don't fit"; 02: "the length tests count four words"
 abbrev pub lacks_room : List ℕ → Bool
-lacks_room t = ltb (length t) head_words || (leb (tally_size1 t) max_class && leb (tally_size2 t) max_class && ltb (length t) (words (tally_size1 t) (tally_size2 t)))
+lacks_room t =
+    ltb (length t) head_words
+    || (leb (tally_size1 t) max_class && leb (tally_size2 t) max_class && ltb (length t) (words (tally_size1 t) (tally_size2 t)))
 
 -- a cell is not above M, and not above the next in l1 and in l2
 abbrev pub fair : List ℕ → ℕ → ℕ → Bool
@@ -64,7 +66,8 @@ fair t l1 l2 =
 abbrev pub is_sound : List ℕ → Bool
 is_sound t =
     leb (tally_size1 t) max_class && leb (tally_size2 t) max_class && leb (rounds t) max_rounds
-    && every (tally_size1 t + 1) (λ l1. every (tally_size2 t + 1) (λ l2. fair t l1 l2)) && eqb (tally_score t) (cell_sum (tally_size1 t) (tally_size2 t) (cell t))
+    && every (tally_size1 t + 1) (λ l1. every (tally_size2 t + 1) (λ l2. fair t l1 l2))
+    && eqb (tally_score t) (cell_sum (tally_size1 t) (tally_size2 t) (cell t))
 
 -- what the test says
 pub record Sound (t : List ℕ) : Type 0 where

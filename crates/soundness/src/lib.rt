@@ -87,9 +87,10 @@ fn is_fair(cells: &[u32], n1: usize, n2: usize, m: u32, score: u32) -> bool
 pub fn check(tally: &[u32]) -> Result<(), Refusal>
     ensures { done result ≡ state_answer tally.now }
 {
-    let [n1, n2, rounds, score, cells @ ..] = tally else {
+    let [n1, n2, rounds, score, ..] = tally else {
         return Err(Refusal::TallyShort);
     };
+    let cells = &tally[HEAD..];
     let n1 = *n1 as usize;
     let n2 = *n2 as usize;
     if (n1 > MAX_CLASS) | (n2 > MAX_CLASS) {
