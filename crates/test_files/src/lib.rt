@@ -53,7 +53,7 @@ pub struct Sections<'a> {
     pub arcs: &'a [u8],
     pub rounds: &'a [u8],
     pub numbers: Numbers,
-    ghost small: { (length nodes.now ≤ 10000) × (length arcs.now ≤ 10000) × (numbers.rounds < 4294967296) },
+    ghost small: { (length nodes.now ≤ 10000) × (length arcs.now ≤ 10000) },
 }
 
 // A trailer: N, A, M, s, t, and how far before the trailer each section begins.
@@ -65,6 +65,8 @@ pub struct Trailer {
     pub arcs_back: usize,
     pub rounds_back: usize,
     ghost words: { (nodes < 4294967296) × (numbers.arcs < 4294967296) × (numbers.rounds < 4294967296) },
+    ghost ends: { (numbers.source < 4294967296) × (numbers.target < 4294967296) },
+    ghost places: { (nodes_back < 4294967296) × (arcs_back < 4294967296) × (rounds_back < 4294967296) },
 }
 
 pub fn num(bytes: &[u8], at: usize) -> usize
@@ -75,7 +77,8 @@ pub fn num(bytes: &[u8], at: usize) -> usize
 
 // The bytes from a place on, so many at most.
 pub fn piece(bytes: &[u8], start: usize, count: usize) -> &[u8]
-    ensures { length result.now ≤ length bytes.now }
+    ensures bytes { length result.now ≤ length bytes.now }
+    ensures count { length result.now ≤ count }
 {
     let rest = bytes.get(start..).unwrap_or(&[]);
     rest.get(..count).unwrap_or(rest)
@@ -142,7 +145,8 @@ pub fn members(nodes: &[u8], arcs: &[u8], class: usize) -> usize
 // How many bytes the orders of this many rounds take.
 pub fn size_of(nodes: &[u8], arcs: &[u8], rounds: usize) -> usize
     requires { (length nodes.now ≤ 10000) × (length arcs.now ≤ 10000) × (rounds < 4294967296) }
-    ensures { result ≤ 180000000000000 }
+    ensures most { result ≤ 180000000000000 }
+    ensures each { result ≤ 8589934592 * (length nodes.now + length arcs.now) }
 {
     let n = members(nodes, arcs, 1) + members(nodes, arcs, 2);
     rounds * n
@@ -224,7 +228,9 @@ fn limits(j: Judged, n: usize, k: Numbers, whole_arcs: bool) -> Judged {
 }
 
 // The writer's numbers but 15.
-pub fn given(s: Sections<'_>) -> Judged {
+pub fn given(s: Sections<'_>) -> Judged
+    requires { s.numbers.rounds < 4294967296 }
+{
     let n = s.nodes.len();
     let n1 = members(s.nodes, s.arcs, 1);
     let n2 = members(s.nodes, s.arcs, 2);
@@ -321,16 +327,17 @@ pub fn round(file: &[u8], round: usize) -> &[u8]
     )
 }
 
-// A file of these sections, good or bad, behind so many bytes.
-pub fn file(s: Sections<'_>, front: usize) -> File
+// A file of these sections, good or bad, behind so many bytes, in place of what was there: a file by
+// value would be cleared and moved for each study.
+pub fn file(s: Sections<'_>, front: usize, out: &mut File)
     requires { (length s.rounds.now ≤ 10000) × (front ≤ 100) }
-    ensures { array_vec_len result ≡ front + length s.entry.nodes.now + length s.entry.arcs.now + length s.entry.rounds.now + 32 }
+    ensures { array_vec_len out.new ≡ front + length s.entry.nodes.now + length s.entry.arcs.now + length s.entry.rounds.now + 32 }
 {
     let n = s.nodes.len();
     let k = s.numbers;
     let rounds = s.rounds.len();
     let arcs = s.arcs.len() + rounds;
-    let mut out = ArrayVec::new();
+    out.clear();
     let _ = out.try_extend_from_slice(&[0; 100][..front]);
     let _ = out.try_extend_from_slice(s.nodes);
     let _ = out.try_extend_from_slice(s.arcs);
@@ -347,7 +354,6 @@ pub fn file(s: Sections<'_>, front: usize) -> File
     ]
     .map(|x| ((x % 4294967296) as u32).to_le_bytes());
     let _ = out.try_extend_from_slice(trailer.as_flattened());
-    out
 }
 
 // ---- output slices

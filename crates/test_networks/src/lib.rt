@@ -223,7 +223,9 @@ impl Shape {
     }
 
     // How far two nodes are apart in a square of side 100.
-    fn far(&self, u: u64, v: u64) -> u64 {
+    fn far(&self, u: u64, v: u64) -> u64
+        ensures { result ≤ 200 }
+    {
         let across = |v: u64| self.draw(300 + v % 256, 100);
         let down = |v: u64| self.draw(600 + v % 256, 100);
         across(u).abs_diff(across(v)) + down(u).abs_diff(down(v))
@@ -279,6 +281,7 @@ impl Shape {
     // The class of arc i: each of the two for as many of all arcs as fail.
     fn arc_class(&self, i: u64) -> u8
         requires { i < self.now.arcs }
+        ensures { result ≤ 2 }
     {
         let c = self.draw(60000 + i % 2048, self.arcs);
         if c < self.failing {
@@ -333,7 +336,9 @@ impl Shape {
 
 // ---- what nodes and arcs there are
 // How many nodes are of a class.
-pub fn of_class(nodes: &[u8], class: u8) -> usize {
+pub fn of_class(nodes: &[u8], class: u8) -> usize
+    ensures { result ≤ length nodes.now }
+{
     nodes.iter().filter(|of| **of == class).count()
 }
 

@@ -66,7 +66,9 @@ pub fn converting(file: &[u8]) -> Judged
 
 // ---- the converted file
 // The place of node v in its class: how many before it are of the class.
-fn place(nodes: &[u8], v: u8) -> u8 {
+fn place(nodes: &[u8], v: u8) -> u8
+    ensures { result ≤ v }
+{
     let v = usize::from(v);
     (of_class(piece(nodes, 0, v), num(nodes, v)) % 256) as u8
 }
@@ -104,5 +106,7 @@ pub fn convert(file: &[u8]) -> Option<File>
         rounds: &rounds,
         numbers: Trailer::of(file).numbers,
     };
-    Some(test_files::file(sections, 0))
+    let mut new = File::new();
+    test_files::file(sections, 0, &mut new);
+    Some(new)
 }

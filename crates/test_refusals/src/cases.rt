@@ -136,7 +136,9 @@ impl Case {
         self.numbers[number as usize]
     }
 
-    fn size(&self, number: Number) -> usize {
+    fn size(&self, number: Number) -> usize
+        ensures { result < 4294967296 }
+    {
         self.word(number) as usize
     }
 

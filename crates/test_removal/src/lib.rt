@@ -192,7 +192,9 @@ impl Round<'_> {
 }
 
 // The cells in which record and table differ.
-pub fn differ(record: &[u8], cells: &Cells<bool>) -> u64 {
+pub fn differ(record: &[u8], cells: &Cells<bool>) -> u64
+    ensures { result ≤ 4225 }
+{
     let mut wrong: u64 = 0;
     for (a, row) in cells.iter().enumerate() {
         for (b, cell) in row.iter().enumerate() {

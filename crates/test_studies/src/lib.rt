@@ -302,7 +302,7 @@ fn end(seed: u64, usual: usize) -> usize
 
 // The numbers of a study of so many arcs and rounds.
 pub fn numbers(seed: u64, arcs: usize, rounds: usize) -> Numbers
-    ensures { (result.arcs ≡ arcs) × (result.rounds ≡ rounds) }
+    ensures { (result.arcs ≡ arcs) × (result.rounds ≡ rounds) × (result.source ≤ 1000000) × (result.target ≤ 1000000) }
 {
     Numbers {
         arcs,
@@ -336,7 +336,8 @@ impl Study {
     }
 
     pub fn sections(&self) -> Sections<'_>
-        ensures { (length result.nodes.now ≤ 200) × (length result.arcs.now ≤ 3200) × (length result.rounds.now ≤ 4001) }
+        ensures { (length result.nodes.now ≤ 200) × (length result.arcs.now ≤ 3200) × (length result.rounds.now ≤ 4001)
+            × (result.numbers.rounds ≤ 200000) }
     {
         Sections {
             nodes: &self.nodes,
@@ -366,14 +367,12 @@ fn hurt(seed: u64, use_of: u64, file: &mut [u8])
     }
 }
 
-// A file of these sections with up to three damages, and at times another length.
-pub fn damaged_file(seed: u64, s: Sections<'_>) -> File
-    requires { length s.rounds.now ≤ 10000 }
-    ensures { array_vec_len result ≤ 36 + length s.entry.nodes.now + length s.entry.arcs.now + length s.entry.rounds.now }
+// Up to three damages, and at times another length.
+fn damage(seed: u64, file: &mut File)
+    ensures { array_vec_len file.new ≤ array_vec_len file.old }
 {
-    let mut file = file(s, some(seed, 51, 4));
     for i in 0..3 {
-        hurt(seed, 100 + 10 * i, &mut file);
+        hurt(seed, 100 + 10 * i, file);
     }
     match pick(seed, 130, 40) {
         0 => file.truncate(31),
@@ -381,7 +380,15 @@ pub fn damaged_file(seed: u64, s: Sections<'_>) -> File
         2 => file.truncate(file.len().saturating_sub(1)),
         _ => {}
     }
-    file
+}
+
+// A file of these sections, damaged or not, in place of what was there.
+pub fn damaged_file(seed: u64, s: Sections<'_>, out: &mut File)
+    requires { length s.rounds.now ≤ 10000 }
+    ensures { array_vec_len out.new ≤ 36 + length s.entry.nodes.now + length s.entry.arcs.now + length s.entry.rounds.now }
+{
+    file(s, some(seed, 51, 4), out);
+    damage(seed, out);
 }
 
 // ---- studies at the limits
@@ -430,5 +437,7 @@ pub fn small_file(nodes: &[u8], arcs: &[u8], rounds: &[u8]) -> File
         rounds,
         numbers,
     };
-    file(sections, 1)
+    let mut out = File::new();
+    file(sections, 1, &mut out);
+    out
 }

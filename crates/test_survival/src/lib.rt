@@ -2,7 +2,7 @@
 // finds to hold and exact arithmetic on them.
 #![tactic(auto)]
 
-ghost use Rattle.std.specs.Prelude.{◌≤◌};
+ghost use Rattle.std.specs.Prelude.{◌≤◌, ◌<◌};
 
 use answer::Rate;
 use test_exact::Between;
@@ -19,7 +19,9 @@ const WORDS: usize = 4240;
 
 // ---- tallies
 // What a word held before the tally.
-fn old(i: usize) -> u32 {
+fn old(i: usize) -> u32
+    ensures { result < 1000 }
+{
     (i % 5000 * 77777 % 1000) as u32
 }
 
@@ -63,7 +65,9 @@ impl Due {
     }
 
     // How many words are not what is due.
-    fn differ(&self, words: &[u32; WORDS]) -> u64 {
+    fn differ(&self, words: &[u32; WORDS]) -> u64
+        ensures { result ≤ 4240 }
+    {
         let wrong = words
             .iter()
             .enumerate()

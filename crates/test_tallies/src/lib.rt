@@ -2,6 +2,7 @@
 // is shared with the library.
 #![tactic(auto)]
 
+ghost use Rattle.arrayvec.specs.ArrayVec.{array_vec_len};
 ghost use Rattle.std.specs.Prelude.{◌+◌, ◌*◌, ◌≤◌, ◌<◌, IfSome, length};
 
 use arrayvec::ArrayVec;
@@ -103,7 +104,9 @@ pub struct Sizes {
 }
 
 // Pairs at random, p1 falling and p2 rising.
-pub fn record_of(seed: u64, s: Sizes) -> Record {
+pub fn record_of(seed: u64, s: Sizes) -> Record
+    ensures { array_vec_len result ≤ 60 }
+{
     let mut record = Record::new();
     record.push(s.n1 as u8);
     record.push(s.n2 as u8);
@@ -415,7 +418,9 @@ pub fn weights(p: u64, n: usize) -> ArrayVec<u32, 65>
 // A prime.
 pub const PRIME: u64 = 999999937;
 
-fn times(x: u32, y: u32) -> u32 {
+fn times(x: u32, y: u32) -> u32
+    ensures { result < 999999937 }
+{
     (u64::from(x) * u64::from(y) % PRIME) as u32
 }
 

@@ -51,7 +51,9 @@ fn try_sections(rt: &impl Print, wrong: &mut u64) -> io::Result<()> {
             numbers: from_0_to_1(a as usize, m as usize),
         };
         print!(rt; "N {n} A {a} M {m} nodes of class {class} {k} arcs to {to}")?;
-        try_file(rt, &test_files::file(sections, 0), 4096, due, wrong)?;
+        let mut file = File::new();
+        test_files::file(sections, 0, &mut file);
+        try_file(rt, &file, 4096, due, wrong)?;
     }
     Ok(())
 }

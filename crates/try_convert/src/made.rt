@@ -69,9 +69,9 @@ fn rounds_of(seed: u64, nodes: &[u8], total: usize) -> ArrayVec<u8, 4001>
     rounds
 }
 
-// The old file of a seed, damaged or not.
-pub fn old_file(seed: u64) -> File
-    ensures { array_vec_len result ≤ 8000 }
+// The old file of a seed, damaged or not, in place of what was there.
+pub fn old_file(seed: u64, file: &mut File)
+    ensures { array_vec_len file.new ≤ 8000 }
 {
     let nodes = test_studies::nodes(seed);
     let mut arcs = without_kinds(&test_studies::arcs(seed, nodes.len()));
@@ -85,5 +85,5 @@ pub fn old_file(seed: u64) -> File
         rounds: &rounds,
         numbers,
     };
-    damaged_file(seed, sections)
+    damaged_file(seed, sections, file);
 }

@@ -12,7 +12,7 @@ ghost use Rattle.std.specs.Prelude.{◌≤◌, length};
 
 use std::io;
 use test_counts::{Answers, opened_right, tick, wrote_right};
-use test_files::{Judged, UNTOUCHED};
+use test_files::{File, Judged, UNTOUCHED};
 use test_studies::{Study, damaged_file, some};
 
 // Slices exactly long enough, and longer ones.
@@ -75,20 +75,20 @@ fn try_opening(file: &[u8], counts: &mut Counts)
     counts.opening.judge(due, right, &mut counts.wrong);
 }
 
-// The old file of a seed, and its new file as an old one.
-fn try_seed(seed: u64, counts: &mut Counts) {
-    let old = made::old_file(seed);
+// The old file of a seed, and its new file as an old one. The file may have held anything.
+fn try_seed(seed: u64, file: &mut File, counts: &mut Counts) {
+    made::old_file(seed, file);
     try_convert(
-        &old,
+        file,
         seed,
         &mut counts.old_files,
         &mut counts.rooms,
         &mut counts.wrong,
     );
-    try_opening(&old, counts);
-    let new = damaged_file(seed, Study::of(seed).sections());
+    try_opening(file, counts);
+    damaged_file(seed, Study::of(seed).sections(), file);
     try_convert(
-        &new,
+        file,
         seed,
         &mut counts.new_files,
         &mut counts.rooms,
@@ -106,8 +106,9 @@ fn main(rt: HostRuntime) -> io::Result<()> {
         fronts: 0,
         pairs: 0,
     };
+    let mut file = File::new();
     for i in 0..3000 {
-        try_seed(test_support::seed(i), &mut counts);
+        try_seed(test_support::seed(i), &mut file, &mut counts);
     }
     fronts::try_fronts(&mut counts);
     counts.old_files.show(&rt, "converter, old files")?;

@@ -1,5 +1,6 @@
 // Generated records: good ones of all sizes, and damaged ones.
-ghost use Rattle.std.specs.Prelude.{◌≤◌, ◌<◌};
+ghost use Rattle.std.specs.Prelude.{◌≡◌, ◌+◌, ◌*◌, ◌≤◌, ◌<◌};
+ghost use Rattle.arrayvec.specs.ArrayVec.{array_vec_len};
 
 use arrayvec::ArrayVec;
 use test_support::{byte, pick, poke};
@@ -20,7 +21,9 @@ fn size(seed: u64, use_of: u64) -> u64
 }
 
 // The bytes of a record: its sizes, how many pairs, and the pairs.
-pub(crate) fn bytes_of(n1: u8, n2: u8, pairs: &ArrayVec<[u8; 2], 66>) -> Bytes {
+pub(crate) fn bytes_of(n1: u8, n2: u8, pairs: &ArrayVec<[u8; 2], 66>) -> Bytes
+    ensures { (array_vec_len result ≡ 3 + 2 * array_vec_len pairs.now) × (array_vec_len result ≤ 135) }
+{
     let mut bytes = ArrayVec::new();
     let _ = bytes.try_extend_from_slice(&[n1, n2, pairs.len() as u8]);
     let _ = bytes.try_extend_from_slice(pairs.as_flattened());
@@ -30,6 +33,7 @@ pub(crate) fn bytes_of(n1: u8, n2: u8, pairs: &ArrayVec<[u8; 2], 66>) -> Bytes {
 // A record of the sizes n1 and n2.
 fn fill(seed: u64, n1: u64, n2: u64) -> Bytes
     requires { (n1 ≤ 65) × (n2 ≤ 65) }
+    ensures { (3 ≤ array_vec_len result) × (array_vec_len result ≤ 150) }
 {
     let every = pick(seed, 40, 5) + 1;
     let mut pairs = ArrayVec::new();

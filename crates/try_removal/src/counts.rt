@@ -1,4 +1,6 @@
 // What a run has seen.
+ghost use Rattle.std.specs.Prelude.{◌+◌, ◌≤◌};
+
 use std::io;
 
 #[derive(Clone, Copy, Default)]
@@ -33,12 +35,16 @@ pub(crate) struct Features {
     pub arcs: [u64; 6],
 }
 
-pub(crate) fn add(count: &mut u64, n: u64) {
+pub(crate) fn add(count: &mut u64, n: u64)
+    ensures { count.new ≤ count.old + n }
+{
     *count = count.saturating_add(n);
 }
 
 // One more where the test holds.
-pub(crate) fn tick(count: &mut u64, test: bool) {
+pub(crate) fn tick(count: &mut u64, test: bool)
+    ensures { count.new ≤ count.old + 1 }
+{
     add(count, u64::from(test));
 }
 

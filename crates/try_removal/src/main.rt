@@ -7,7 +7,7 @@ mod counts;
 mod features;
 mod made;
 
-ghost use Rattle.std.specs.Prelude.{◌<◌};
+ghost use Rattle.std.specs.Prelude.{◌+◌, ◌≤◌, ◌<◌};
 
 use crate::counts::{Counts, add, tick};
 use crate::made::{ROUNDS, Study};
@@ -21,6 +21,7 @@ use test_removal::{Found, Record, Round, differ};
 // its routes.
 fn try_round(study: &Study, file: &[u8], r: usize, counts: &mut Counts) -> Found
     requires { r < 8 }
+    ensures { counts.new.wrong ≤ counts.old.wrong + 2000000 }
 {
     let mut out = [0u8; 160];
     let written = search::search(file, r, &mut out).unwrap_or(0);

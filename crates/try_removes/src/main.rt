@@ -256,7 +256,9 @@ impl List {
 }
 
 // ---- what lists are made of
-fn sizes_of(seed: u64, i: u64) -> Sizes {
+fn sizes_of(seed: u64, i: u64) -> Sizes
+    ensures { (result.n1 ≤ 64) × (result.n2 ≤ 64) }
+{
     if i % 29 == 0 {
         return Sizes { n1: 64, n2: 64 };
     }

@@ -1,6 +1,6 @@
 // Each limit from both sides, and numbers that apply together: lists of cases, each with the number
 // that is due from the library and from the plain reading, 0 for a success.
-ghost use Rattle.std.specs.Prelude.{◌≡◌, ◌*◌, ◌≤◌, length};
+ghost use Rattle.std.specs.Prelude.{◌≡◌, ◌*◌, ◌≤◌, ◌<◌, length};
 
 use std::io;
 use test_answers::number;
@@ -16,7 +16,9 @@ fn check(got: Option<u32>, want: Judged, due: u32, wrong: &mut u64) -> u32 {
 }
 
 // ---- sections
-fn writes(rt: &impl Print, s: Sections<'_>, due: u32, wrong: &mut u64) -> io::Result<()> {
+fn writes(rt: &impl Print, s: Sections<'_>, due: u32, wrong: &mut u64) -> io::Result<()>
+    requires { s.numbers.rounds < 4294967296 }
+{
     let mut out = [0; 4096];
     let total = s.numbers.rounds;
     let got = writer::write_study(s.nodes, s.arcs, s.rounds, 0, 1, total, &mut out);
@@ -49,7 +51,9 @@ fn tries(
         rounds: b"",
         numbers: from_0_to_1(arcs.len() / 3, total as usize),
     };
-    opens(rt, &test_files::file(sections, 0), due, wrong)?;
+    let mut file = File::new();
+    test_files::file(sections, 0, &mut file);
+    opens(rt, &file, due, wrong)?;
     print!(rt; ", ")?;
     writes(rt, sections, due, wrong)
 }

@@ -10,7 +10,7 @@ ghost use Rattle.std.specs.Prelude.{◌≤◌, length};
 use std::io;
 use test_answers::number;
 use test_counts::{Answers, opened_right, tick, wrote_right};
-use test_files::{Sections, UNTOUCHED};
+use test_files::{File, Sections, UNTOUCHED};
 use test_studies::{Study, damaged_file, some};
 
 // ---- counts
@@ -73,11 +73,11 @@ fn try_round(file: &[u8], round: usize, counts: &mut Counts)
     counts.lookup.judge(due, right, &mut counts.wrong);
 }
 
-// The writer into a slice of this room, and every byte behind it.
-fn try_write(s: Sections<'_>, short: usize, counts: &mut Counts)
-    requires { (length s.nodes.now ≤ 200) × (length s.arcs.now ≤ 3200) × (length s.rounds.now ≤ 4001) × (short ≤ 100) }
+// The writer into a slice of this room, and every byte behind it; `file` is made into what is due.
+fn try_write(s: Sections<'_>, short: usize, file: &mut File, counts: &mut Counts)
+    requires { (length s.nodes.now ≤ 200) × (length s.arcs.now ≤ 3200) × (length s.rounds.now ≤ 4001) × (s.numbers.rounds ≤ 200000) × (short ≤ 100) }
 {
-    let file = test_files::file(s, 0);
+    test_files::file(s, 0, file);
     // One byte short, exactly long enough, or longer.
     let room = file.len() + short - 1;
     let due = test_files::given(s).note(room < file.len(), 15);
@@ -92,7 +92,7 @@ fn try_write(s: Sections<'_>, short: usize, counts: &mut Counts)
         k.rounds,
         &mut out[..room],
     );
-    let right = wrote_right(&file, due, got, &out);
+    let right = wrote_right(file, due, got, &out);
     counts.writer.judge(due, right, &mut counts.wrong);
 }
 
@@ -120,14 +120,15 @@ fn note_class(s: &Study, class: usize, counts: &mut Counts)
     }
 }
 
-// The study of a seed: written, laid out by hand and damaged, opened, its rounds looked up.
-fn try_study(seed: u64, counts: &mut Counts) {
+// The study of a seed: written, laid out by hand and damaged, opened, its rounds looked up. The file
+// may have held anything.
+fn try_study(seed: u64, file: &mut File, counts: &mut Counts) {
     let s = Study::of(seed);
     note_class(&s, 1, counts);
     note_class(&s, 2, counts);
-    try_write(s.sections(), some(seed, 50, 4), counts);
-    let file = damaged_file(seed, s.sections());
-    try_file(&file, seed, s.numbers.rounds, counts);
+    try_write(s.sections(), some(seed, 50, 4), file, counts);
+    damaged_file(seed, s.sections(), file);
+    try_file(file, seed, s.numbers.rounds, counts);
 }
 
 fn main(rt: HostRuntime) -> io::Result<()> {
@@ -139,8 +140,9 @@ fn main(rt: HostRuntime) -> io::Result<()> {
         largest: Sorts::default(),
         too_large: Sorts::default(),
     };
+    let mut file = File::new();
     for i in 0..6000 {
-        try_study(test_support::seed(i), &mut counts);
+        try_study(test_support::seed(i), &mut file, &mut counts);
     }
     counts.largest.show(&rt, "classes of 64 members")?;
     counts.too_large.show(&rt, "classes of 65 members")?;

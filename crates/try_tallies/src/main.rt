@@ -75,7 +75,9 @@ fn try_add(record: &[u8], words: &mut Words, answers: &mut Answers) {
 }
 
 // The sizes of a record: those of the tally, but for two times in ten.
-fn record_sizes(seed: u64, s: Sizes) -> Sizes {
+fn record_sizes(seed: u64, s: Sizes) -> Sizes
+    ensures { (s.n1 ≤ 64) × (s.n2 ≤ 64) → (result.n1 ≤ 65) × (result.n2 ≤ 65) }
+{
     match pick(seed, 7, 10) {
         0 => Sizes {
             n1: (s.n1 + 1).min(65),
@@ -214,9 +216,12 @@ struct Case {
     sizes: Sizes,
     words: Words,
     ghost below: { seed < 2147483648 },
+    ghost small: { (sizes.n1 ≤ 64) × (sizes.n2 ≤ 64) },
 }
 
-fn sizes_of(seed: u64, i: u64) -> Sizes {
+fn sizes_of(seed: u64, i: u64) -> Sizes
+    ensures { (result.n1 ≤ 64) × (result.n2 ≤ 64) }
+{
     match i % 7 {
         0 => Sizes { n1: 64, n2: 64 },
         1 => Sizes { n1: 0, n2: 0 },
@@ -249,7 +254,9 @@ impl Case {
     }
 
     // Sizes as they are, or one of them 65.
-    fn new_sizes(&self) -> Sizes {
+    fn new_sizes(&self) -> Sizes
+        ensures { (result.n1 ≤ 65) × (result.n2 ≤ 65) }
+    {
         match pick(self.seed, 40, 12) {
             0 => Sizes {
                 n1: 65,
