@@ -16,7 +16,7 @@
  *
  * No call keeps a pointer, allocates, or has any state: calls from several threads may run at once.
  * Bytes of stack a call takes, compiled for x86-64 (bench/stack): search 18,960, convert 768,
- * reliability 696, write 432, tally_remove 360, open 344, round 344, parallel 280, series 280,
+ * reliability 696, write 432, tally_remove 360, open 344, round 344, series 280, parallel 264,
  * tally_add 232, weights 56, tally_new 48, ageing 8, tally_score 8; memset and memcpy come to that.
  */
 #ifndef MEDLARBRACE_H
